@@ -1,0 +1,3 @@
+pub mod Binary
+pub mod Strays
+pub mod Limits

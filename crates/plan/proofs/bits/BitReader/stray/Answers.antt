@@ -1,0 +1,40 @@
+use mathlib.Core.List.{List}
+use mathlib.Core.Path.{_≡_, sym, ap, _∙_}
+use Prim.Native.Nat.{ℕ, _+_, _*_, _/_, _<_, _≤_}
+use native.Mathlib.Omega.{arith}
+use lib.ListN.{length, drop}
+use Rattle.std.specs.declared.option.Option.the-variants.{Some}
+use Rattle.plan.specs.Bits.{bits}
+use Rattle.plan.specs.Decode.{stray, byte-end}
+use Rattle.plan.proofs.Binary.{length-bits}
+use Rattle.plan.proofs.Strays.{stray-one, stray-past, stray-next, stray-none}
+use Rattle.plan.proofs.bits.BitReader.stray.Needs as need
+
+-- the search with the end of the byte as the code has it
+at-end : (bs : List ℕ) (at end : ℕ) → end ≡ byte-end at → stray (byte-end at) (drop at bs) at ≡ stray end (drop at bs) at
+at-end bs at end e = ap (λ x. stray x (drop at bs) at) (sym e)
+
+pub returns-then-bit-eq1 : need.returns-then-bit-eq1
+returns-then-bit-eq1 c =
+    let me = c .args .self .now in
+    let found = stray-one (c .div-ceil-end .result * 8) (bits (me .bytes .now)) (c .loop-at .at) (omega (arith, length-bits (me .bytes .now))) (sym (c .bit .ensures) ∙ c .if-bit-eq1 .taken) in
+    sym (at-end (bits (me .bytes .now)) (me .at) (c .div-ceil-end .result * 8) (omega arith) ∙ c .loop-at .inv ∙ found)
+
+pub loop-at-again : need.loop-at-again
+loop-at-again c =
+    let me = c .args .self .now in
+    c .loop-at .inv ∙ stray-next (c .div-ceil-end .result * 8) (bits (me .bytes .now)) (c .loop-at .at) (omega (arith, length-bits (me .bytes .now))) (c .loop-at-test .taken) (λ one. c .if-bit-eq1 .left (c .bit .ensures ∙ one))
+
+pub returns-then-end-self : need.returns-then-end-self
+returns-then-end-self c =
+    let me = c .args .self .now in
+    let over = stray-none (c .div-ceil-end .result * 8) (bits (me .bytes .now)) (c .loop-at .at) (omega (arith, length-bits (me .bytes .now))) in
+    sym (at-end (bits (me .bytes .now)) (me .at) (c .div-ceil-end .result * 8) (omega arith) ∙ c .loop-at .inv ∙ over)
+
+pub returns-else-end-self : need.returns-else-end-self
+returns-else-end-self c =
+    let me = c .args .self .now in
+    let more : c .loop-at .at < length (bits (me .bytes .now)) = omega (arith, length-bits (me .bytes .now)) in
+    let past = stray-past (c .div-ceil-end .result * 8) (bits (me .bytes .now)) (c .loop-at .at) more (c .loop-at-test .left) in
+    let same : c .loop-at .at ≡ c .div-ceil-end .result * 8 = omega arith in
+    sym (at-end (bits (me .bytes .now)) (me .at) (c .div-ceil-end .result * 8) (omega arith) ∙ c .loop-at .inv ∙ past ∙ ap (λ (n : ℕ). Some n) same)

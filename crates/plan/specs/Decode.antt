@@ -1,0 +1,44 @@
+-- What a whole file says, and what the file of a plan is. Assumes nothing.
+use mathlib.Core.List.{List, [], _∷_, _++_}
+use mathlib.Core.Bool.{Bool, true, cond, _||_}
+use mathlib.Core.Path.{_≡_}
+use Prim.Native.Nat.{ℕ, _+_, _*_, _-_, _/_}
+use lib.Dec.{leb, eqb}
+use lib.ListN.{length, drop, replicate}
+use Rattle.std.specs.declared.option.Option.{Option}
+use Rattle.std.specs.declared.option.Option.the-variants.{Some, None}
+use Rattle.std.specs.declared.result.Result.{Result}
+use Rattle.std.specs.declared.result.Result.the-variants.{Ok, Err}
+use Rattle.plan.specs.declared.fault.Refusal.the-variants.{Trailing}
+use Rattle.plan.specs.declared.fault.Field.the-variants.{Padding}
+use Rattle.plan.specs.Bits.{bits}
+use Rattle.plan.specs.Faults.{Told, told, none}
+use Rattle.plan.specs.Layout.{Layout, Reading}
+use Rattle.plan.specs.Plan.{Plan, Within}
+use Rattle.plan.specs.File.{plan-layout}
+
+-- the end of the byte that a bit lies in, where it is not the first of one
+abbrev pub byte-end : ℕ → ℕ
+byte-end at = 8 * ((at + 7) / 8)
+
+-- the earliest bit that is 1, or does not lie before the end
+unfoldable pub stray : ℕ → List ℕ → ℕ → Option ℕ
+stray end [] at = None
+stray end (b ∷ bs) at = cond (eqb b 1 || leb end at) (Some at) (stray end bs (at + 1))
+
+-- a plan after which nothing but padding comes
+abbrev pub ended : Plan → Option ℕ → Result Plan Told
+ended p None = Ok p
+ended p (Some at) = Err (told Trailing Padding none none at)
+
+abbrev pub closed : List ℕ → Reading Plan → Result Plan Told
+closed bs (Ok r) = ended (r .0) (stray (byte-end (r .1)) (drop (r .1) bs) (r .1))
+closed bs (Err t) = Err t
+
+-- the plan that a file holds, or why it is refused
+unfoldable pub decode : List ℕ → Result Plan Told
+decode bytes = closed (bits bytes) (plan-layout .read (bits bytes) 0)
+
+-- the bits of a plan's file: its fields, and 0 bits to the end of the byte
+unfoldable pub laid : Plan → List ℕ
+laid p = let fields = plan-layout .write p in fields ++ replicate (byte-end (length fields) - length fields) 0

@@ -1,0 +1,9 @@
+pub mod Bits
+pub mod Faults
+pub mod Layout
+pub mod Plan
+pub mod File
+pub mod Decode
+pub mod Held
+pub mod Law
+pub mod Readers

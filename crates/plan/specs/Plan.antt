@@ -1,0 +1,51 @@
+-- A plan: the modes of a board and their tasks. Times are in ticks, and all numbers count from 0. Assumes nothing.
+use mathlib.Core.List.{List, []}
+use mathlib.Core.Path.{_≡_}
+use Prim.Native.Nat.{ℕ, _≤_, _<_}
+use lib.ListN.{length, getD}
+
+pub record Task : Type 0 where
+  -- C, the worst-case execution time
+  pub cost : ℕ
+  -- D, the relative deadline
+  pub deadline : ℕ
+  -- T, the least separation of two releases
+  pub separation : ℕ
+  -- E, the enabling deadline for each old mode, and 0 for the task's own mode
+  pub enabling : List ℕ
+
+pub record Mode : Type 0 where
+  -- the code of the priority rule
+  pub rule : ℕ
+  pub tasks : List Task
+
+pub record Plan : Type 0 where
+  pub processors : ℕ
+  -- the mode that a board begins in
+  pub start : ℕ
+  pub modes : List Mode
+
+abbrev pub no-task : Task
+no-task = record { cost = 0; deadline = 0; separation = 0; enabling = [] }
+
+abbrev pub no-mode : Mode
+no-mode = record { rule = 0; tasks = [] }
+
+-- mode j of a plan, and task k of mode j
+abbrev pub mode-at : Plan → ℕ → Mode
+mode-at p j = getD (p .modes) j no-mode
+
+abbrev pub task-at : Plan → ℕ → ℕ → Task
+task-at p j k = getD (mode-at p j .tasks) k no-task
+
+-- the limits of a task of mode j, in a plan of n modes
+abbrev pub TaskWithin : ℕ → ℕ → Task → Type 0
+TaskWithin n j t = (1 ≤ t .cost) × (t .cost ≤ 4095) × (t .cost ≤ t .deadline) × (t .deadline ≤ t .separation) × (t .separation ≤ 65535) × (length (t .enabling) ≡ n) × (getD (t .enabling) j 0 ≡ 0) × ((i : ℕ) → getD (t .enabling) i 0 ≤ 65535)
+
+-- the limits of mode j, in a plan of n modes
+abbrev pub ModeWithin : ℕ → ℕ → Mode → Type 0
+ModeWithin n j m = (m .rule ≤ 2) × (1 ≤ length (m .tasks)) × (length (m .tasks) ≤ 16) × ((k : ℕ) → k < length (m .tasks) → TaskWithin n j (getD (m .tasks) k no-task))
+
+-- the limits of a plan
+abbrev pub Within : Plan → Type 0
+Within p = (1 ≤ p .processors) × (p .processors ≤ 8) × (1 ≤ length (p .modes)) × (length (p .modes) ≤ 8) × (p .start < length (p .modes)) × ((j : ℕ) → j < length (p .modes) → ModeWithin (length (p .modes)) j (mode-at p j))

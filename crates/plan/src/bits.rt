@@ -1,0 +1,86 @@
+// A reader of bits over borrowed bytes, the most significant bit of each byte first.
+ghost use mathlib.Core.Path.{_≡_};
+ghost use mathlib.Core.Bool.{cond};
+ghost use Prim.Native.Nat.{_+_, _*_, _^_, _<_, _≤_};
+ghost use lib.ListN.{length, getD, drop};
+ghost use Rattle.std.specs.Results.{isOk, okPart};
+ghost use Rattle.std.specs.Vec.{refused};
+ghost use Rattle.plan.specs.Bits.{bits, taken};
+ghost use Rattle.plan.specs.Decode.{stray, byte-end};
+
+// The input ends before all the bits that were asked for, which begin at this one.
+#[derive(Clone, Copy)]
+pub(crate) struct Short {
+    pub(crate) bit: u32,
+}
+
+#[derive(Drop)]
+pub(crate) struct BitReader<'a> {
+    bytes: &'a [u8],
+    at: u32,
+    ghost inside: { at ≤ 8 * length (bytes .now) },
+}
+
+impl<'a> BitReader<'a> {
+    pub(crate) fn new(bytes: &'a [u8]) -> Self
+        ensures bytes { λ r. ⌜ now (r .bytes) ≡ now (bytes .entry) ⌝ }
+        ensures place { λ r. ⌜ r .at ≡ 0 ⌝ }
+    {
+        BitReader { bytes, at: 0 }
+    }
+
+    // The next bit's number.
+    pub(crate) fn place(&self) -> u32
+        ensures { λ r. ⌜ r ≡ now (self .entry) .at ⌝ }
+    {
+        self.at
+    }
+
+    // The bit at `at`.
+    fn bit(&self, at: u32) -> u8
+        requires { ⌜ at < 8 * length (now self .bytes .now) ⌝ }
+        ensures { λ r. ⌜ r ≡ getD (bits (now (self .entry) .bytes .now)) at 0 ⌝ }
+    {
+        (self.bytes[(at / 8) as usize] >> (7 - at % 8)) & 1
+    }
+
+    // The number in the next `width` bits.
+    pub(crate) fn take(&mut self, width: u32) -> Result<u16, Short>
+        requires narrow { ⌜ width ≤ 16 ⌝ }
+        requires near { ⌜ now self .at ≤ 2 ^ 20 ⌝ }
+        ensures value { λ r. ⌜ okPart r ≡ taken width (bits (now (self .entry) .bytes .now)) (now (self .entry) .at) ⌝ }
+        ensures refused { λ r. ⌜ refused r (λ e. e .bit ≡ now (self .entry) .at) ⌝ }
+        ensures place { λ r. ⌜ now (self .exit) .at ≡ cond (isOk r) (now (self .entry) .at + width) (now (self .entry) .at) ⌝ }
+        ensures bytes { λ _. ⌜ now (self .exit) .bytes ≡ now (self .entry) .bytes ⌝ }
+    {
+        let first = self.at;
+        let end = first + width;
+        if (end as usize).div_ceil(8) > self.bytes.len() {
+            return Err(Short { bit: first });
+        }
+        let mut value: u16 = 0;
+        for at in first..end {
+            value = value * 2 + self.bit(at) as u16;
+        }
+        self.at = end;
+        Ok(value)
+    }
+
+    // The earliest bit from here on that is 1 or lies in a further byte.
+    pub(crate) fn stray(&self) -> Option<u32>
+        requires near { ⌜ now self .at ≤ 2 ^ 20 ⌝ }
+        ensures { λ r. ⌜ r ≡ stray (byte-end (now (self .entry) .at)) (drop (now (self .entry) .at) (bits (now (self .entry) .bytes .now))) (now (self .entry) .at) ⌝ }
+    {
+        let end = self.at.div_ceil(8) * 8;
+        for at in self.at..end {
+            if self.bit(at) == 1 {
+                return Some(at);
+            }
+        }
+        if (end / 8) as usize == self.bytes.len() {
+            None
+        } else {
+            Some(end)
+        }
+    }
+}
