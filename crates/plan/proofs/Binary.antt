@@ -1,10 +1,10 @@
--- A bit of some bytes, and the number of their bits. Assumes nothing.
+-- The bit at a place of some bytes, and the number in the bits from a place on. Assumes nothing.
 use mathlib.Core.List.{List, [], _∷_, _++_}
 use mathlib.Core.Logic.{⊎-elim}
 use mathlib.Core.Path.{_≡_, refl, sym, ap, _∙_}
 use Prim.Native.Nat.{ℕ, zero, suc, _+_, _-_, _*_, _/_, _%_, _^_, _<_, _≤_}
 use native.Mathlib.Omega.{arith}
-use lib.ListN.{length, getD, take, drop, length-append, length-drop}
+use lib.ListN.{length, getD, take, drop, length-drop}
 use Rattle.std.specs.shelf.Digits.{number}
 use Rattle.std.proofs.shelf.Bits.{pow-add}
 use Rattle.std.proofs.shelf.Digits.{number-more}
@@ -12,11 +12,7 @@ use Rattle.std.proofs.shelf.Lists.{getD-append-left, getD-append-right, getD-dr
 use Rattle.std.proofs.shelf.Tests.{cases-lt, cond-true, cond-false, le-leb, lt-leb}
 use Rattle.std.specs.declared.option.Option.the-variants.{Some, None}
 use Rattle.plan.specs.Bits.{binary, bits, taken}
-
-pub length-binary : (width n : ℕ) → length (binary width n) ≡ width
-unfolding binary
-length-binary zero n = refl
-length-binary (suc width) n = ap suc (length-binary width n)
+use Rattle.plan.proofs.Numbers.{length-binary}
 
 pub binary-at : (width n i : ℕ) → i < width → getD (binary width n) i 0 ≡ n / 2 ^ (width - 1 - i) % 2
 unfolding binary
@@ -24,11 +20,6 @@ binary-at zero n i h = let no-i : ⊥ = omega arith in absurd no-i
 binary-at (suc width) n zero h = ap (λ e. n / 2 ^ e % 2) (omega arith)
 binary-at (suc width) n (suc i) h =
     binary-at width n i (omega arith) ∙ ap (λ e. n / 2 ^ e % 2) (omega arith)
-
-pub length-bits : (bytes : List ℕ) → length (bits bytes) ≡ 8 * length bytes
-unfolding bits
-length-bits [] = refl
-length-bits (b ∷ bytes) = length-append (binary 8 b) (bits bytes) ∙ omega (arith, length-binary 8 b, length-bits bytes)
 
 -- a bit is the digit of its byte that its place in the byte says
 pub bits-at : (bytes : List ℕ) (at : ℕ) → at < 8 * length bytes → getD (bits bytes) at 0 ≡ getD bytes (at / 8) 0 / 2 ^ (7 - at % 8) % 2

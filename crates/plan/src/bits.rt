@@ -51,7 +51,7 @@ impl<'a> BitReader<'a> {
         ensures value { λ r. ⌜ okPart r ≡ taken width (bits (now (self .entry) .bytes .now)) (now (self .entry) .at) ⌝ }
         ensures refused { λ r. ⌜ refused r (λ e. e .bit ≡ now (self .entry) .at) ⌝ }
         ensures place { λ r. ⌜ now (self .exit) .at ≡ cond (isOk r) (now (self .entry) .at + width) (now (self .entry) .at) ⌝ }
-        ensures bytes { λ _. ⌜ now (self .exit) .bytes ≡ now (self .entry) .bytes ⌝ }
+        ensures bytes { λ _. ⌜ now (self .exit) .bytes .now ≡ now (self .entry) .bytes .now ⌝ }
     {
         let first = self.at;
         let end = first + width;

@@ -18,7 +18,7 @@ impl BitReader<'_> {
         ensures value { λ r. ⌜ ((mode task : ℕ) → located mode task r (now (self .exit) .at) ≡ in-field field mode task least most .read (bits (now (self .entry) .bytes .now)) (now (self .entry) .at)) ⌝ }
         ensures within { λ r. ⌜ made r (λ n. (least ≤ n) × (n ≤ most)) ⌝ }
         ensures near { λ _. ⌜ now (self .exit) .at ≤ now (self .entry) .at + 16 ⌝ }
-        ensures bytes { λ _. ⌜ now (self .exit) .bytes ≡ now (self .entry) .bytes ⌝ }
+        ensures bytes { λ _. ⌜ now (self .exit) .bytes .now ≡ now (self .entry) .bytes .now ⌝ }
     {
         let bit = self.place();
         match self.take(field.width()) {
@@ -46,7 +46,7 @@ impl BitReader<'_> {
         ensures value { λ r. ⌜ answered r (now (self .exit) .at) ≡ in-field field mode task least most .read (bits (now (self .entry) .bytes .now)) (now (self .entry) .at) ⌝ }
         ensures within { λ r. ⌜ made r (λ n. (least ≤ n) × (n ≤ most)) ⌝ }
         ensures near { λ _. ⌜ now (self .exit) .at ≤ now (self .entry) .at + 16 ⌝ }
-        ensures bytes { λ _. ⌜ now (self .exit) .bytes ≡ now (self .entry) .bytes ⌝ }
+        ensures bytes { λ _. ⌜ now (self .exit) .bytes .now ≡ now (self .entry) .bytes .now ⌝ }
     {
         match self.field(field, least, most) {
             Ok(value) => Ok(value),

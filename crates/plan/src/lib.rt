@@ -3,6 +3,7 @@ mod bits;
 mod draft;
 mod fault;
 mod fields;
+mod reader;
 mod tables;
 
 pub use draft::Draft;

@@ -1,10 +1,19 @@
 // The tables of a plan, as a board holds them: fixed arrays with counts.
 // Places past a count hold zeros, so that equal plans are equal tables.
 
-// The most modes a plan can have, and the most tasks a mode can have.
+// The most processors of a board, the most modes of a plan, and the most tasks of a mode.
+pub const PROCESSORS: usize = 8;
+
 pub const MODES: usize = 8;
 
 pub const TASKS: usize = 16;
+
+// The greatest execution time, the greatest of the other times, and the greatest code of a rule.
+pub const MAX_COST: u16 = 4095;
+
+pub const MAX_TIME: u16 = 65535;
+
+pub const MAX_RULE: u16 = 2;
 
 // Times are in ticks. `enabling` has the enabling deadline for each old mode, and 0 for the task's own.
 #[derive(Clone, Copy)]
@@ -15,11 +24,28 @@ pub struct Task {
     pub enabling: [u16; MODES],
 }
 
+impl Task {
+    pub const BLANK: Task = Task {
+        cost: 0,
+        deadline: 0,
+        separation: 0,
+        enabling: [0; MODES],
+    };
+}
+
 #[derive(Clone, Copy)]
 pub struct Mode {
     pub rule: u8,
     pub count: u8,
     pub tasks: [Task; TASKS],
+}
+
+impl Mode {
+    pub const BLANK: Mode = Mode {
+        rule: 0,
+        count: 0,
+        tasks: [Task::BLANK; TASKS],
+    };
 }
 
 #[derive(Drop)]

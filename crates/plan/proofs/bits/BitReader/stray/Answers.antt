@@ -6,7 +6,7 @@ use lib.ListN.{length, drop}
 use Rattle.std.specs.declared.option.Option.the-variants.{Some}
 use Rattle.plan.specs.Bits.{bits}
 use Rattle.plan.specs.Decode.{stray, byte-end}
-use Rattle.plan.proofs.Binary.{length-bits}
+use Rattle.plan.proofs.Numbers.{length-bits}
 use Rattle.plan.proofs.Strays.{stray-one, stray-past, stray-next, stray-none}
 use Rattle.plan.proofs.bits.BitReader.stray.Needs as need
 

@@ -6,7 +6,8 @@ use lib.Pow.{pow-mono}
 use Rattle.std.specs.shelf.Digits.{number}
 use Rattle.std.specs.declared.option.Option.the-variants.{Some}
 use Rattle.plan.specs.Bits.{bits}
-use Rattle.plan.proofs.Binary.{length-bits, bit-below, number-next, pow-next, taken-none, taken-some}
+use Rattle.plan.proofs.Numbers.{length-bits}
+use Rattle.plan.proofs.Binary.{bit-below, number-next, pow-next, taken-none, taken-some}
 use Rattle.plan.proofs.bits.BitReader.take.Needs as need
 
 pub returns-then-div-ceil-self : need.returns-then-div-ceil-self

@@ -1,0 +1,13 @@
+use mathlib.Core.Path.{_≡_}
+use Prim.Native.Nat.{_+_, _*_, _≤_}
+use Rattle.plan.specs.Bits.{bits}
+use Rattle.plan.specs.File.{task-layout}
+use Rattle.plan.specs.Held.{blank-task, task-table}
+use Rattle.plan.proofs.Loops.{Sofar}
+use Rattle.plan.proofs.bits.BitReader.tasks.Given as given
+
+abbrev pub Inv-loop-task : given.InvT-loop-task
+Inv-loop-task l =
+    Sofar task-table 16 blank-task (task-layout (l .modes) (l .mode)) (l .count) (bits (l .entry .self .bytes .now)) (l .entry .self .at) (l .task) (l .tasks) (l .self .at)
+    × (l .self .at ≤ l .entry .self .at + 176 * l .task)
+    × (l .self .bytes .now ≡ l .entry .self .bytes .now)

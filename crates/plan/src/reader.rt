@@ -1,0 +1,144 @@
+// The reader of a plan: its fields in their order, into the tables.
+ghost use mathlib.Core.Path.{_≡_};
+ghost use mathlib.Core.List.{map};
+ghost use Prim.Native.Nat.{_+_, _^_, _≤_};
+ghost use Rattle.plan.specs.Bits.{bits};
+ghost use Rattle.plan.specs.Layout.{each};
+ghost use Rattle.plan.specs.File.{enabling-layout, task-layout, mode-layout, plan-layout};
+ghost use Rattle.plan.specs.Held.{padded, blank-task, blank-mode, task-table, mode-table, plan-table};
+ghost use Rattle.plan.specs.Readers.{answered, converted};
+use crate::bits::BitReader;
+use crate::fault::Fault;
+use crate::fault::Field;
+use crate::fault::NONE;
+use crate::tables::MAX_COST;
+use crate::tables::MAX_RULE;
+use crate::tables::MAX_TIME;
+use crate::tables::MODES;
+use crate::tables::Mode;
+use crate::tables::PROCESSORS;
+use crate::tables::Plan;
+use crate::tables::TASKS;
+use crate::tables::Task;
+
+// The greatest numbers in the fields that hold a count less one.
+const LAST_PROCESSOR: u16 = PROCESSORS as u16 - 1;
+
+const LAST_MODE: u16 = MODES as u16 - 1;
+
+const LAST_TASK: u16 = TASKS as u16 - 1;
+
+impl BitReader<'_> {
+    // The enabling deadline of a task for one old mode: the file has none for the task's own.
+    fn enabling_deadline(&mut self, mode: u8, task: u8, old: u8) -> Result<u16, Fault>
+        requires near { ⌜ now self .at ≤ 2 ^ 20 ⌝ }
+        ensures value { λ r. ⌜ answered r (now (self .exit) .at) ≡ enabling-layout mode task old .read (bits (now (self .entry) .bytes .now)) (now (self .entry) .at) ⌝ }
+        ensures near { λ _. ⌜ now (self .exit) .at ≤ now (self .entry) .at + 16 ⌝ }
+        ensures bytes { λ _. ⌜ now (self .exit) .bytes .now ≡ now (self .entry) .bytes .now ⌝ }
+    {
+        if old == mode {
+            return Ok(0);
+        }
+        self.number(Field::Enabling, mode, task, 0, MAX_TIME)
+    }
+
+    fn enabling(&mut self, modes: u8, mode: u8, task: u8) -> Result<[u16; MODES], Fault>
+        requires few { ⌜ modes ≤ 8 ⌝ }
+        requires near { ⌜ now self .at ≤ 2 ^ 19 ⌝ }
+        ensures value { λ r. ⌜ answered r (now (self .exit) .at) ≡ converted (padded 8 0) (each modes (enabling-layout mode task) .read (bits (now (self .entry) .bytes .now)) (now (self .entry) .at)) ⌝ }
+        ensures near { λ _. ⌜ now (self .exit) .at ≤ now (self .entry) .at + 128 ⌝ }
+        ensures bytes { λ _. ⌜ now (self .exit) .bytes .now ≡ now (self .entry) .bytes .now ⌝ }
+    {
+        let mut enabling = [0; MODES];
+        for old in 0..modes {
+            enabling[old as usize] = self.enabling_deadline(mode, task, old)?;
+        }
+        Ok(enabling)
+    }
+
+    fn task(&mut self, modes: u8, mode: u8, task: u8) -> Result<Task, Fault>
+        requires few { ⌜ modes ≤ 8 ⌝ }
+        requires near { ⌜ now self .at ≤ 2 ^ 18 ⌝ }
+        ensures value { λ r. ⌜ answered r (now (self .exit) .at) ≡ converted task-table (task-layout modes mode task .read (bits (now (self .entry) .bytes .now)) (now (self .entry) .at)) ⌝ }
+        ensures near { λ _. ⌜ now (self .exit) .at ≤ now (self .entry) .at + 176 ⌝ }
+        ensures bytes { λ _. ⌜ now (self .exit) .bytes .now ≡ now (self .entry) .bytes .now ⌝ }
+    {
+        let cost = self.number(Field::Cost, mode, task, 1, MAX_COST)?;
+        let deadline = self.number(Field::Deadline, mode, task, cost, MAX_TIME)?;
+        let separation = self.number(Field::Separation, mode, task, deadline, MAX_TIME)?;
+        let enabling = self.enabling(modes, mode, task)?;
+        Ok(Task {
+            cost,
+            deadline,
+            separation,
+            enabling,
+        })
+    }
+
+    fn tasks(&mut self, modes: u8, mode: u8, count: u8) -> Result<[Task; TASKS], Fault>
+        requires few { ⌜ modes ≤ 8 ⌝ }
+        requires room { ⌜ count ≤ 16 ⌝ }
+        requires near { ⌜ now self .at ≤ 2 ^ 17 ⌝ }
+        ensures value { λ r. ⌜ answered r (now (self .exit) .at) ≡ converted (λ ts. padded 16 blank-task (map task-table ts)) (each count (task-layout modes mode) .read (bits (now (self .entry) .bytes .now)) (now (self .entry) .at)) ⌝ }
+        ensures near { λ _. ⌜ now (self .exit) .at ≤ now (self .entry) .at + 2816 ⌝ }
+        ensures bytes { λ _. ⌜ now (self .exit) .bytes .now ≡ now (self .entry) .bytes .now ⌝ }
+    {
+        let mut tasks = [Task::BLANK; TASKS];
+        for task in 0..count {
+            tasks[task as usize] = self.task(modes, mode, task)?;
+        }
+        Ok(tasks)
+    }
+
+    fn mode(&mut self, modes: u8, mode: u8) -> Result<Mode, Fault>
+        requires few { ⌜ modes ≤ 8 ⌝ }
+        requires near { ⌜ now self .at ≤ 2 ^ 16 ⌝ }
+        ensures value { λ r. ⌜ answered r (now (self .exit) .at) ≡ converted mode-table (mode-layout modes mode .read (bits (now (self .entry) .bytes .now)) (now (self .entry) .at)) ⌝ }
+        ensures near { λ _. ⌜ now (self .exit) .at ≤ now (self .entry) .at + 2848 ⌝ }
+        ensures bytes { λ _. ⌜ now (self .exit) .bytes .now ≡ now (self .entry) .bytes .now ⌝ }
+    {
+        let rule = self.number(Field::Rule, mode, NONE, 0, MAX_RULE)?;
+        let last = self.number(Field::Tasks, mode, NONE, 0, LAST_TASK)?;
+        let count = last as u8 + 1;
+        let tasks = self.tasks(modes, mode, count)?;
+        Ok(Mode {
+            rule: rule as u8,
+            count,
+            tasks,
+        })
+    }
+
+    fn modes(&mut self, count: u8) -> Result<[Mode; MODES], Fault>
+        requires few { ⌜ count ≤ 8 ⌝ }
+        requires near { ⌜ now self .at ≤ 2 ^ 15 ⌝ }
+        ensures value { λ r. ⌜ answered r (now (self .exit) .at) ≡ converted (λ ms. padded 8 blank-mode (map mode-table ms)) (each count (mode-layout count) .read (bits (now (self .entry) .bytes .now)) (now (self .entry) .at)) ⌝ }
+        ensures near { λ _. ⌜ now (self .exit) .at ≤ now (self .entry) .at + 22784 ⌝ }
+        ensures bytes { λ _. ⌜ now (self .exit) .bytes .now ≡ now (self .entry) .bytes .now ⌝ }
+    {
+        let mut modes = [Mode::BLANK; MODES];
+        for mode in 0..count {
+            modes[mode as usize] = self.mode(count, mode)?;
+        }
+        Ok(modes)
+    }
+
+    // A whole plan, without what may follow it.
+    pub(crate) fn plan(&mut self) -> Result<Plan, Fault>
+        requires near { ⌜ now self .at ≤ 2 ^ 10 ⌝ }
+        ensures value { λ r. ⌜ answered r (now (self .exit) .at) ≡ converted plan-table (plan-layout .read (bits (now (self .entry) .bytes .now)) (now (self .entry) .at)) ⌝ }
+        ensures near { λ _. ⌜ now (self .exit) .at ≤ now (self .entry) .at + 22832 ⌝ }
+        ensures bytes { λ _. ⌜ now (self .exit) .bytes .now ≡ now (self .entry) .bytes .now ⌝ }
+    {
+        let processors = self.number(Field::Processors, NONE, NONE, 0, LAST_PROCESSOR)?;
+        let last = self.number(Field::Modes, NONE, NONE, 0, LAST_MODE)?;
+        let start = self.number(Field::Start, NONE, NONE, 0, last)?;
+        let count = last as u8 + 1;
+        let modes = self.modes(count)?;
+        Ok(Plan {
+            processors: processors as u8 + 1,
+            start: start as u8,
+            count,
+            modes,
+        })
+    }
+}
