@@ -32,6 +32,7 @@ bits-at (b ∷ bytes) at h = ⊎-elim first (λ high. later high (bits-at bytes 
         let q : at / 8 ≡ 0 = omega arith in
         let r : at % 8 ≡ at = omega arith in
         getD-append-left (binary 8 b) (bits bytes) 0 at (omega (arith, length-binary 8 b)) ∙ binary-at 8 b at low ∙ rw (q, r) (ap (λ e. b / 2 ^ e % 2) (omega arith))
+
     later : 8 ≤ at → getD (bits bytes) (at - 8) 0 ≡ getD bytes ((at - 8) / 8) 0 / 2 ^ (7 - (at - 8) % 8) % 2 → getD (bits (b ∷ bytes)) at 0 ≡ getD (b ∷ bytes) (at / 8) 0 / 2 ^ (7 - at % 8) % 2
     later high rest =
         let q : at / 8 ≡ suc ((at - 8) / 8) = omega arith in

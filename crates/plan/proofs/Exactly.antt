@@ -19,10 +19,14 @@ use Rattle.plan.specs.Layout.{Reading}
 use Rattle.plan.specs.Plan.{Plan, Within}
 use Rattle.plan.specs.File.{plan-layout}
 use Rattle.plan.specs.Decode.{byte-end, stray, ended, closed, decode, laid}
-use Rattle.plan.specs.Law.{Holds, Exactly}
+use Rattle.plan.specs.Law.{Holds}
 use Rattle.plan.proofs.Numbers.{length-bits, under-bits}
 use Rattle.plan.proofs.Lawful.{Stands, Found}
 use Rattle.plan.proofs.PlanLawful.{plan-lawful}
+
+-- a file is decoded as a plan exactly when it holds that plan
+abbrev pub Exactly : List ℕ → Type 0
+Exactly bytes = ((p : Plan) → decode bytes ≡ Ok p → Holds bytes p) × ((p : Plan) → Holds bytes p → decode bytes ≡ Ok p)
 
 -- no bit is astray just where all are 0 and lie before the end
 zeros-from-stray : (end : ℕ) (bs : List ℕ) (at : ℕ) → Under 2 bs → at ≤ end → stray end bs at ≡ None → (bs ≡ replicate (length bs) 0) × (at + length bs ≤ end)

@@ -7,3 +7,6 @@ pub mod Strays
 pub mod Limits
 pub mod Exits
 pub mod Loops
+pub mod LeastWithin
+pub mod TableOf
+pub mod Accepts

@@ -7,3 +7,4 @@ pub mod Decode
 pub mod Held
 pub mod Law
 pub mod Readers
+pub mod Builtin

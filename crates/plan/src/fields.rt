@@ -41,7 +41,14 @@ impl BitReader<'_> {
     }
 
     // The number in a field of a mode and a task, `NONE` where it has none.
-    pub(crate) fn number(&mut self, field: Field, mode: u8, task: u8, least: u16, most: u16) -> Result<u16, Fault>
+    pub(crate) fn number(
+        &mut self,
+        field: Field,
+        mode: u8,
+        task: u8,
+        least: u16,
+        most: u16,
+    ) -> Result<u16, Fault>
         requires near { ⌜ now self .at ≤ 2 ^ 20 ⌝ }
         ensures value { λ r. ⌜ answered r (now (self .exit) .at) ≡ in-field field mode task least most .read (bits (now (self .entry) .bytes .now)) (now (self .entry) .at) ⌝ }
         ensures within { λ r. ⌜ made r (λ n. (least ≤ n) × (n ≤ most)) ⌝ }

@@ -3,6 +3,7 @@ mod bits;
 mod draft;
 mod fault;
 mod fields;
+mod file;
 mod reader;
 mod tables;
 
@@ -11,6 +12,7 @@ pub use fault::Fault;
 pub use fault::Field;
 pub use fault::NONE;
 pub use fault::Refusal;
+pub use file::read;
 pub use tables::MODES;
 pub use tables::Mode;
 pub use tables::Plan;

@@ -22,8 +22,7 @@ pub loop-old-again : need.loop-old-again
 loop-old-again c =
     let me = c .args .self .now in
     let item = enabling-layout (c .args .mode) (c .args .task) in
-    let told = c .in-Continue-enabling .ensures tt in
-    (
+    let told = c .in-Continue-enabling .ensures tt in (
       sofar-more (λ x. x) 8 0 item (c .args .modes) (bits (me .bytes .now)) (me .at) (c .loop-old .old) (c .loop-old .enabling) (c .loop-old .self .at) _ (c .in-Continue-enabling .field-0) (c .loop-old-test .taken) (omega arith) (c .loop-old .inv .0) (over (item (c .loop-old .old)) _ _ (c .loop-old .inv .2) (told .value)),
       omega (arith, told .near, c .loop-old .inv .1),
       told .bytes ∙ c .loop-old .inv .2,

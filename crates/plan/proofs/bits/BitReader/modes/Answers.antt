@@ -24,8 +24,7 @@ loop-mode-again c =
     let me = c .args .self .now in
     let item = mode-layout (c .args .count) in
     let told = c .in-Continue-modes .ensures tt in
-    let read = read-from mode-table _ (c .in-Continue-modes .field-0) _ (over-form mode-table (item (c .loop-mode .mode)) _ _ (c .loop-mode .inv .2) (told .value)) in
-    (
+    let read = read-from mode-table _ (c .in-Continue-modes .field-0) _ (over-form mode-table (item (c .loop-mode .mode)) _ _ (c .loop-mode .inv .2) (told .value)) in (
       sofar-next mode-table 8 blank-mode item (c .args .count) (bits (me .bytes .now)) (me .at) (c .loop-mode .mode) (c .loop-mode .modes) (c .loop-mode .self .at) _ (c .in-Continue-modes .field-0) (c .loop-mode-test .taken) (omega arith) (c .loop-mode .inv .0) read,
       omega (arith, told .near, c .loop-mode .inv .1),
       told .bytes ∙ c .loop-mode .inv .2,

@@ -24,8 +24,7 @@ loop-task-again c =
     let me = c .args .self .now in
     let item = task-layout (c .args .modes) (c .args .mode) in
     let told = c .in-Continue-tasks .ensures tt in
-    let read = read-from task-table _ (c .in-Continue-tasks .field-0) _ (over-form task-table (item (c .loop-task .task)) _ _ (c .loop-task .inv .2) (told .value)) in
-    (
+    let read = read-from task-table _ (c .in-Continue-tasks .field-0) _ (over-form task-table (item (c .loop-task .task)) _ _ (c .loop-task .inv .2) (told .value)) in (
       sofar-next task-table 16 blank-task item (c .args .count) (bits (me .bytes .now)) (me .at) (c .loop-task .task) (c .loop-task .tasks) (c .loop-task .self .at) _ (c .in-Continue-tasks .field-0) (c .loop-task-test .taken) (omega arith) (c .loop-task .inv .0) read,
       omega (arith, told .near, c .loop-task .inv .1),
       told .bytes ∙ c .loop-task .inv .2,

@@ -1,0 +1,60 @@
+-- What the decoding of a file gives the reader's contract. Assumes nothing.
+use mathlib.Core.Bool.{true, false}
+use mathlib.Core.List.{List}
+use mathlib.Core.Path.{_≡_, refl, sym, ap, subst, _∙_}
+use Prim.Native.Nat.{ℕ}
+use native.Mathlib.Omega.{arith}
+use lib.ListN.{drop}
+use Rattle.std.proofs.shelf.Tests.{false≢true}
+use Rattle.std.specs.Results.{ErrBy, isOk}
+use Rattle.std.specs.declared.option.Option.{Option}
+use Rattle.std.specs.declared.option.Option.the-variants.{Some}
+use Rattle.std.specs.declared.result.Result.{Result}
+use Rattle.std.specs.declared.result.Result.the-variants.{Ok, Err}
+use Rattle.plan.specs.declared.fault.Fault.{Fault}
+use Rattle.plan.specs.declared.tables.Plan.{Plan as PlanTable}
+use Rattle.plan.specs.Bits.{bits}
+use Rattle.plan.specs.Decode.{decode, closed, ended, stray, byte-end}
+use Rattle.plan.specs.File.{plan-layout}
+use Rattle.plan.specs.Faults.{Told, numbers}
+use Rattle.plan.specs.Held.{plan-of, plan-table}
+use Rattle.plan.specs.Law.{refusal, numbered, tabled, Holds, Accepts-exactly}
+use Rattle.plan.specs.Plan.{Plan, Within}
+use Rattle.plan.proofs.Exactly.{exactly}
+use Rattle.plan.proofs.TableOf.{plan-back}
+
+no-case : {A : Type 0} → _≡_ {A = ℕ} 0 1 → A
+no-case z = let none : ⊥ = omega arith in absurd none
+
+-- the exit of a `?`
+pub stopped-numbered : {A : Type 0} (r : Result A Fault) (f : Fault) → ErrBy r (λ g. g ≡ f) → numbered r ≡ Err (numbers f)
+stopped-numbered (Ok a) f h = absurd h
+stopped-numbered (Err g) f h = ap (λ x. Err (numbers x)) h
+
+-- the exit of a `?`, as what it tells and as a test
+pub stopped-refusal : {A : Type 0} (r : Result A Fault) (f : Fault) → ErrBy r (λ g. g ≡ f) → (refusal r ≡ Some (numbers f)) × (isOk r ≡ false)
+stopped-refusal (Ok a) f h = absurd h
+stopped-refusal (Err g) f h = (ap (λ x. Some (numbers x)) h, refl)
+
+-- the plan whose tables were read
+pub plan-read : (r : Result Plan Told) (tables : PlanTable) → Ok tables ≡ tabled r → (p : Plan) × (r ≡ Ok p) × (tables ≡ plan-table p)
+plan-read (Ok p) tables e = (p, refl, cc)
+plan-read (Err t) tables e = no-case (cc)
+
+pub refusal-read : (r : Result Plan Told) (t : Told) → Err t ≡ tabled r → r ≡ Err t
+refusal-read (Ok p) t e = no-case (cc)
+refusal-read (Err u) t e = let same : t ≡ u = cc in ap Err (sym same)
+
+module _ (bytes : List ℕ) where
+  pub decoded : (p : Plan) (at : ℕ) (bit : Option ℕ) → plan-layout .read (bits bytes) 0 ≡ Ok (p, at) → bit ≡ stray (byte-end at) (drop at (bits bytes)) at → decode bytes ≡ ended p bit
+  unfolding decode
+  decoded p at bit read found = ap (closed (bits bytes)) read ∙ ap (ended p) (sym found)
+
+  pub read-within : (p : Plan) → decode bytes ≡ Ok p → Within p
+  read-within p e = exactly bytes .0 p e .0
+
+  pub accepts : (p q : Plan) → decode bytes ≡ Ok p → q ≡ p → Accepts-exactly bytes true q
+  accepts p q e same = (λ _. subst (λ x. Holds bytes x) (sym same) (exactly bytes .0 p e), λ x h. let is = exactly bytes .1 x h in (refl, cc))
+
+  pub refuses : (t : Told) (q : Plan) → decode bytes ≡ Err t → Accepts-exactly bytes false q
+  refuses t q e = (λ no-answer. absurd (false≢true no-answer), λ x h. let is = exactly bytes .1 x h in no-case (cc))

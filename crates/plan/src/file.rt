@@ -1,0 +1,43 @@
+// Reads a plan file into a draft, or says what is wrong with it.
+ghost use mathlib.Core.Path.{_≡_};
+ghost use Rattle.std.specs.Results.{isOk};
+ghost use Rattle.plan.specs.Held.{plan-of};
+ghost use Rattle.plan.specs.Decode.{decode};
+ghost use Rattle.plan.specs.Law.{refusal as told-by, refused-as, numbered, tabled, placed, Accepts-exactly};
+use crate::bits::BitReader;
+use crate::draft::Draft;
+use crate::fault::Fault;
+use crate::fault::Field;
+use crate::fault::NONE;
+use crate::fault::Refusal;
+use crate::tables::Plan;
+
+// The tables of the plan in a file, after which nothing but padding may come.
+fn tables_in(bytes: &[u8]) -> Result<Plan, Fault>
+    ensures { λ r. ⌜ numbered r ≡ tabled (decode (now (bytes .entry))) ⌝ }
+{
+    let mut reader = BitReader::new(bytes);
+    let plan = reader.plan()?;
+    match reader.stray() {
+        Some(bit) => Err(Fault {
+            refusal: Refusal::Trailing,
+            field: Field::Padding,
+            mode: NONE,
+            task: NONE,
+            bit,
+        }),
+        None => Ok(plan),
+    }
+}
+
+// Bytes of any length and content are decoded, or refused with what is told of them; a refusal leaves the place as it was.
+// They are accepted exactly when they are the layout of a plan within the limits, and the draft is then that plan.
+pub fn read(bytes: &[u8], place: &mut Draft) -> Result<(), Fault>
+    ensures answer { λ r. ⌜ told-by r ≡ refused-as (decode (now (bytes .entry))) ⌝ }
+    ensures place { λ _. ⌜ now (place .exit) .plan ≡ placed (decode (now (bytes .entry))) (now (place .entry) .plan) ⌝ }
+    ensures law { λ r. ⌜ Accepts-exactly (now (bytes .entry)) (isOk r) (plan-of (now (place .exit) .plan)) ⌝ }
+{
+    let plan = tables_in(bytes)?;
+    place.fill(plan);
+    Ok(())
+}
