@@ -6,9 +6,8 @@ use Prim.Native.Nat.{ℕ}
 use native.Mathlib.Omega.{arith}
 use lib.ListN.{drop}
 use Rattle.std.proofs.shelf.Tests.{false≢true}
-use Rattle.std.specs.Results.{ErrBy, isOk}
+use Rattle.std.specs.Results.{ErrBy, Cases}
 use Rattle.std.specs.declared.option.Option.{Option}
-use Rattle.std.specs.declared.option.Option.the-variants.{Some}
 use Rattle.std.specs.declared.result.Result.{Result}
 use Rattle.std.specs.declared.result.Result.the-variants.{Ok, Err}
 use Rattle.plan.specs.declared.fault.Fault.{Fault}
@@ -18,7 +17,7 @@ use Rattle.plan.specs.Decode.{decode, closed, ended, stray, byte-end}
 use Rattle.plan.specs.File.{plan-layout}
 use Rattle.plan.specs.Faults.{Told, numbers}
 use Rattle.plan.specs.Held.{plan-of, plan-table}
-use Rattle.plan.specs.Law.{refusal, numbered, tabled, Holds, Accepts-exactly}
+use Rattle.plan.specs.Law.{numbered, tabled, Holds, Accepts-exactly}
 use Rattle.plan.specs.Plan.{Plan, Within}
 use Rattle.plan.proofs.Exactly.{exactly}
 use Rattle.plan.proofs.TableOf.{plan-back}
@@ -31,10 +30,10 @@ pub stopped-numbered : {A : Type 0} (r : Result A Fault) (f : Fault) → ErrBy r
 stopped-numbered (Ok a) f h = absurd h
 stopped-numbered (Err g) f h = ap (λ x. Err (numbers x)) h
 
--- the exit of a `?`, as what it tells and as a test
-pub stopped-refusal : {A : Type 0} (r : Result A Fault) (f : Fault) → ErrBy r (λ g. g ≡ f) → (refusal r ≡ Some (numbers f)) × (isOk r ≡ false)
-stopped-refusal (Ok a) f h = absurd h
-stopped-refusal (Err g) f h = (ap (λ x. Some (numbers x)) h, refl)
+-- the exit of a `?`, where the clause goes by cases
+pub stopped-cases : {A : Type 0} (P : A → Type 0) (Q : Fault → Type 0) (r : Result A Fault) (f : Fault) → ErrBy r (λ g. g ≡ f) → Q f → Cases r P Q
+stopped-cases P Q (Ok a) f h q = absurd h
+stopped-cases P Q (Err g) f h q = subst Q (sym h) q
 
 -- the plan whose tables were read
 pub plan-read : (r : Result Plan Told) (tables : PlanTable) → Ok tables ≡ tabled r → (p : Plan) × (r ≡ Ok p) × (tables ≡ plan-table p)

@@ -1,6 +1,6 @@
 -- What a reader answers where a part of it was refused, and where a part was read. Assumes nothing.
 use mathlib.Core.List.{List}
-use mathlib.Core.Path.{_≡_, sym, ap, subst}
+use mathlib.Core.Path.{_≡_, sym, ap, subst, _∙_}
 use Prim.Native.Nat.{ℕ}
 use native.Mathlib.Omega.{arith}
 use Rattle.std.specs.Results.{ErrBy}
@@ -9,7 +9,8 @@ use Rattle.std.specs.declared.result.Result.the-variants.{Ok, Err}
 use Rattle.plan.specs.declared.fault.Fault.{Fault}
 use Rattle.plan.specs.Faults.{Told, numbers}
 use Rattle.plan.specs.Bits.{bits}
-use Rattle.plan.specs.Layout.{Layout, Reading}
+use Rattle.plan.specs.declared.fault.Field.{Field}
+use Rattle.plan.specs.Layout.{Layout, Reading, field}
 use Rattle.plan.specs.Readers.{answered, converted}
 
 -- the exit of a `?`
@@ -40,3 +41,9 @@ over l r at same e = sym (subst (λ bytes. r ≡ l .read (bits bytes) at) same e
 -- a reading of the same bytes, in another form
 pub over-form : {A B : Type 0} (form : A → B) (l : Layout A) (r : Reading B) (at : ℕ) {x y : List ℕ} → x ≡ y → r ≡ converted form (l .read (bits x) at) → r ≡ converted form (l .read (bits y) at)
 over-form form l r at same e = subst (λ bytes. r ≡ converted form (l .read (bits bytes) at)) same e
+
+-- the same of a field, where the code has its limits in other words
+pub over-field : (f : Field) (mode task least most : ℕ) (r : Reading ℕ) (at : ℕ) {low high : ℕ} {x y : List ℕ} → low ≡ least → high ≡ most → x ≡ y → r ≡ field f mode task low high .read (bits x) at → field f mode task least most .read (bits y) at ≡ r
+over-field f mode task least most r at {low} {high} {x} {y} a b same e =
+    let at-limits : field f mode task least most .read (bits y) at ≡ field f mode task low high .read (bits y) at = cc in
+    at-limits ∙ over (field f mode task low high) r at same e

@@ -1,11 +1,10 @@
 -- What a field reads: a number within its limits, or why not. Assumes nothing.
 use mathlib.Core.Bool.{true, false, _&&_}
 use mathlib.Core.List.{List}
-use mathlib.Core.Logic.{_⊎_, ⊎-elim}
 use mathlib.Core.Path.{_≡_, refl, sym, ap, _∙_}
 use Prim.Native.Nat.{ℕ, _+_, _<_, _≤_}
 use lib.Dec.{leb, lit≤}
-use Rattle.std.proofs.shelf.Tests.{cond-true, cond-false, le-leb, lt-leb, and-from, and-left, and-right}
+use Rattle.std.proofs.shelf.Tests.{cond-true, cond-false, leb-true, and-parts}
 use Rattle.std.specs.declared.option.Option.the-variants.{Some, None}
 use Rattle.std.specs.declared.result.Result.the-variants.{Ok, Err}
 use Rattle.plan.specs.declared.fault.Refusal.the-variants.{Ended, OutOfRange}
@@ -32,10 +31,15 @@ module _ (f : Field) (mode task least most : ℕ) (bs : List ℕ) (at : ℕ) whe
   unfolding field
   reads-none e = ap (judged f mode task least most at) e
 
-  pub reads-outside : (n : ℕ) → taken (width f) bs at ≡ Some n → (n < least) ⊎ (most < n) → field f mode task least most .read bs at ≡ Err (told OutOfRange f mode task at)
+  pub reads-outside : (n : ℕ) → taken (width f) bs at ≡ Some n → (leb least n && leb n most) ≡ false → field f mode task least most .read bs at ≡ Err (told OutOfRange f mode task at)
   unfolding field
-  reads-outside n e out = ap (judged f mode task least most at) e ∙ cond-false _ _ _ (⊎-elim (λ low. and-left (leb least n) (leb n most) (lt-leb least n low)) (λ high. and-right (leb least n) (leb n most) (lt-leb n most high)) out)
+  reads-outside n e out = ap (judged f mode task least most at) e ∙ cond-false _ _ _ out
 
-  pub reads-inside : (n : ℕ) → taken (width f) bs at ≡ Some n → least ≤ n → n ≤ most → field f mode task least most .read bs at ≡ Ok (n, at + width f)
+  pub reads-inside : (n : ℕ) → taken (width f) bs at ≡ Some n → (leb least n && leb n most) ≡ true → field f mode task least most .read bs at ≡ Ok (n, at + width f)
   unfolding field
-  reads-inside n e low high = ap (judged f mode task least most at) e ∙ cond-true _ _ _ (and-from (leb least n) (leb n most) (le-leb least n low) (le-leb n most high))
+  reads-inside n e within = ap (judged f mode task least most at) e ∙ cond-true _ _ _ within
+
+pub inside : (least most n : ℕ) → (leb least n && leb n most) ≡ true → (least ≤ n) × (n ≤ most)
+inside least most n e =
+    let both = and-parts (leb least n) (leb n most) e in
+    (leb-true least n (both .0), leb-true n most (both .1))

@@ -1,5 +1,5 @@
 -- What reading a file answers and leaves, and which files it accepts. Assumes nothing.
-use mathlib.Core.Bool.{Bool, true}
+use mathlib.Core.Bool.{Bool, true, false}
 use mathlib.Core.List.{List}
 use mathlib.Core.Path.{_≡_}
 use Prim.Native.Nat.{ℕ}
@@ -11,9 +11,9 @@ use Rattle.plan.specs.declared.fault.Fault.{Fault}
 use Rattle.plan.specs.declared.tables.Plan.{Plan as PlanTable}
 use Rattle.plan.specs.Bits.{bits}
 use Rattle.plan.specs.Faults.{Told, numbers}
-use Rattle.plan.specs.Held.{plan-table}
+use Rattle.plan.specs.Held.{plan-of, plan-table}
 use Rattle.plan.specs.Plan.{Plan, Within}
-use Rattle.plan.specs.Decode.{laid}
+use Rattle.plan.specs.Decode.{decode, laid}
 
 -- what an answer tells: nothing where it accepts
 abbrev pub refusal : {A : Type 0} → Result A Fault → Option Told
@@ -46,3 +46,10 @@ Holds bytes p = Within p × (bits bytes ≡ laid p)
 -- a file is accepted exactly when it holds some plan, and then as that plan
 abbrev pub Accepts-exactly : List ℕ → Bool → Plan → Type 0
 Accepts-exactly bytes accepted plan = (accepted ≡ true → Holds bytes plan) × ((p : Plan) → Holds bytes p → (accepted ≡ true) × (plan ≡ p))
+
+-- tables of the plan that a file is decoded as, and a fault that the decoding tells
+abbrev pub Drafted : List ℕ → PlanTable → Type 0
+Drafted bytes tables = (refused-as (decode bytes) ≡ None) × ((old : PlanTable) → placed (decode bytes) old ≡ tables) × Accepts-exactly bytes true (plan-of tables)
+
+abbrev pub Refused : List ℕ → Fault → Type 0
+Refused bytes fault = (refused-as (decode bytes) ≡ Some (numbers fault)) × ((old : PlanTable) → placed (decode bytes) old ≡ old) × ((plan : Plan) → Accepts-exactly bytes false plan)

@@ -2,6 +2,7 @@
 ghost use mathlib.Core.Path.{_≡_};
 ghost use mathlib.Core.Bool.{cond};
 ghost use Prim.Native.Nat.{_+_, _*_, _^_, _<_, _≤_};
+ghost use lib.Dec.{leb};
 ghost use lib.ListN.{length, getD, drop};
 ghost use Rattle.std.specs.Results.{isOk, okPart};
 ghost use Rattle.std.specs.Vec.{refused};
@@ -36,6 +37,20 @@ impl<'a> BitReader<'a> {
         self.at
     }
 
+    // Whether the input has so many bits.
+    fn has(&self, count: u32) -> bool
+        ensures { λ r. ⌜ r ≡ leb count (8 * length (now (self .entry) .bytes .now)) ⌝ }
+    {
+        (count as usize).div_ceil(8) <= self.bytes.len()
+    }
+
+    // That the input ends within what begins at the next bit.
+    fn short(&self) -> Short
+        ensures { λ r. ⌜ r .bit ≡ now (self .entry) .at ⌝ }
+    {
+        Short { bit: self.at }
+    }
+
     // The bit at `at`.
     fn bit(&self, at: u32) -> u8
         requires { ⌜ at < 8 * length (now self .bytes .now) ⌝ }
@@ -55,8 +70,8 @@ impl<'a> BitReader<'a> {
     {
         let first = self.at;
         let end = first + width;
-        if (end as usize).div_ceil(8) > self.bytes.len() {
-            return Err(Short { bit: first });
+        if !self.has(end) {
+            return Err(self.short());
         }
         let mut value: u16 = 0;
         for at in first..end {
@@ -77,10 +92,6 @@ impl<'a> BitReader<'a> {
                 return Some(at);
             }
         }
-        if (end / 8) as usize == self.bytes.len() {
-            None
-        } else {
-            Some(end)
-        }
+        if self.has(end + 1) { Some(end) } else { None }
     }
 }

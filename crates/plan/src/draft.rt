@@ -3,11 +3,7 @@ ghost use mathlib.Core.Path.{_≡_};
 ghost use Rattle.plan.specs.Plan.{Within};
 ghost use Rattle.plan.specs.Held.{plan-of, plan-table};
 ghost use Rattle.plan.specs.Builtin.{least};
-use crate::tables::MODES;
-use crate::tables::Mode;
 use crate::tables::Plan;
-use crate::tables::TASKS;
-use crate::tables::Task;
 
 // Neither `Copy` nor `Clone`: whoever adopts a draft uses it up.
 // The bars round `Within` make it a fact with one proof, which is what a struct may hold.
@@ -19,26 +15,12 @@ pub struct Draft {
 }
 
 impl Draft {
-    // The least plan there is: one processor, one mode, and one task that runs for a tick.
+    // The draft that is built in, of the least plan there is.
     pub fn least() -> Draft
-        ensures { λ r. ⌜ plan-of (r .plan) ≡ least ⌝ }
+        ensures { λ r. ⌜ r .plan ≡ plan-table least ⌝ }
     {
-        let mut task = Task::BLANK;
-        task.cost = 1;
-        task.deadline = 1;
-        task.separation = 1;
-        let mut mode = Mode::BLANK;
-        mode.count = 1;
-        mode.tasks[0] = task;
-        let mut modes = [Mode::BLANK; MODES];
-        modes[0] = mode;
         Draft {
-            plan: Plan {
-                processors: 1,
-                start: 0,
-                count: 1,
-                modes,
-            },
+            plan: Plan::least(),
         }
     }
 
@@ -48,12 +30,12 @@ impl Draft {
         &self.plan
     }
 
-    // Takes the tables of a plan within the limits.
-    pub(crate) fn fill(&mut self, plan: Plan)
+    // The draft of tables that hold a plan within the limits.
+    pub(crate) fn new(plan: Plan) -> Draft
         requires within { ⌜ Within (plan-of plan) ⌝ }
         requires blank { ⌜ plan-table (plan-of plan) ≡ plan ⌝ }
-        ensures { λ _. ⌜ now (self .exit) .plan ≡ plan ⌝ }
+        ensures { λ r. ⌜ r .plan ≡ plan ⌝ }
     {
-        *self = Draft { plan };
+        Draft { plan }
     }
 }

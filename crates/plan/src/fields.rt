@@ -1,5 +1,7 @@
 // Fields: numbers with limits, whose faults gain first the field and then its mode and task.
 ghost use mathlib.Core.Path.{_≡_};
+ghost use mathlib.Core.Bool.{_&&_};
+ghost use lib.Dec.{leb};
 ghost use Prim.Native.Nat.{ℕ, _+_, _^_, _≤_};
 ghost use Rattle.std.specs.Vec.{made};
 ghost use Rattle.plan.specs.Bits.{bits};
@@ -10,6 +12,12 @@ use crate::fault::Fault;
 use crate::fault::Field;
 use crate::fault::FieldFault;
 use crate::fault::Refusal;
+
+fn in_range(value: u16, least: u16, most: u16) -> bool
+    ensures { λ r. ⌜ r ≡ (leb least value && leb value most) ⌝ }
+{
+    least <= value && value <= most
+}
 
 impl BitReader<'_> {
     // The number in a field, which is to lie between `least` and `most`.
@@ -23,7 +31,7 @@ impl BitReader<'_> {
         let bit = self.place();
         match self.take(field.width()) {
             Ok(value) => {
-                if value < least || value > most {
+                if !in_range(value, least, most) {
                     return Err(FieldFault {
                         refusal: Refusal::OutOfRange,
                         field,

@@ -1,9 +1,9 @@
 // Reads a plan file into a draft, or says what is wrong with it.
 ghost use mathlib.Core.Path.{_≡_};
-ghost use Rattle.std.specs.Results.{isOk};
+ghost use Rattle.std.specs.Results.{isOk, Cases};
 ghost use Rattle.plan.specs.Held.{plan-of};
 ghost use Rattle.plan.specs.Decode.{decode};
-ghost use Rattle.plan.specs.Law.{refusal as told-by, refused-as, numbered, tabled, placed, Accepts-exactly};
+ghost use Rattle.plan.specs.Law.{refusal as told-by, refused-as, numbered, tabled, placed, Drafted, Refused, Accepts-exactly};
 use crate::bits::BitReader;
 use crate::draft::Draft;
 use crate::fault::Fault;
@@ -30,6 +30,14 @@ fn tables_in(bytes: &[u8]) -> Result<Plan, Fault>
     }
 }
 
+// The draft in a file, and with it that just the layouts of plans are accepted.
+fn draft_in(bytes: &[u8]) -> Result<Draft, Fault>
+    ensures { λ r. ⌜ Cases r (λ draft. Drafted (now (bytes .entry)) (draft .plan)) (λ fault. Refused (now (bytes .entry)) fault) ⌝ }
+{
+    let plan = tables_in(bytes)?;
+    Ok(Draft::new(plan))
+}
+
 // Bytes of any length and content are decoded, or refused with what is told of them; a refusal leaves the place as it was.
 // They are accepted exactly when they are the layout of a plan within the limits, and the draft is then that plan.
 pub fn read(bytes: &[u8], place: &mut Draft) -> Result<(), Fault>
@@ -37,7 +45,11 @@ pub fn read(bytes: &[u8], place: &mut Draft) -> Result<(), Fault>
     ensures place { λ _. ⌜ now (place .exit) .plan ≡ placed (decode (now (bytes .entry))) (now (place .entry) .plan) ⌝ }
     ensures law { λ r. ⌜ Accepts-exactly (now (bytes .entry)) (isOk r) (plan-of (now (place .exit) .plan)) ⌝ }
 {
-    let plan = tables_in(bytes)?;
-    place.fill(plan);
-    Ok(())
+    match draft_in(bytes) {
+        Ok(draft) => {
+            *place = draft;
+            Ok(())
+        }
+        Err(fault) => Err(fault),
+    }
 }

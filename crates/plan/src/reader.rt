@@ -1,7 +1,9 @@
 // The reader of a plan: its fields in their order, into the tables.
 ghost use mathlib.Core.Path.{_≡_};
 ghost use mathlib.Core.List.{map};
-ghost use Prim.Native.Nat.{_+_, _^_, _≤_};
+ghost use mathlib.Core.Bool.{not};
+ghost use Prim.Native.Nat.{_+_, _-_, _^_, _≤_};
+ghost use lib.Dec.{eqb};
 ghost use Rattle.plan.specs.Bits.{bits};
 ghost use Rattle.plan.specs.Layout.{each};
 ghost use Rattle.plan.specs.File.{enabling-layout, task-layout, mode-layout, plan-layout};
@@ -28,6 +30,21 @@ const LAST_MODE: u16 = MODES as u16 - 1;
 
 const LAST_TASK: u16 = TASKS as u16 - 1;
 
+// The number of the last of so many modes.
+fn last_mode(modes: u8) -> u16
+    requires { ⌜ 1 ≤ modes ⌝ }
+    ensures { λ r. ⌜ r ≡ modes - 1 ⌝ }
+{
+    modes as u16 - 1
+}
+
+// A task has an enabling deadline for every mode but its own.
+fn has_deadline(mode: u8, old: u8) -> bool
+    ensures { λ r. ⌜ r ≡ not (eqb old mode) ⌝ }
+{
+    old != mode
+}
+
 impl BitReader<'_> {
     // The enabling deadline of a task for one old mode: the file has none for the task's own.
     fn enabling_deadline(&mut self, mode: u8, task: u8, old: u8) -> Result<u16, Fault>
@@ -36,10 +53,11 @@ impl BitReader<'_> {
         ensures near { λ _. ⌜ now (self .exit) .at ≤ now (self .entry) .at + 16 ⌝ }
         ensures bytes { λ _. ⌜ now (self .exit) .bytes .now ≡ now (self .entry) .bytes .now ⌝ }
     {
-        if old == mode {
-            return Ok(0);
+        if has_deadline(mode, old) {
+            self.number(Field::Enabling, mode, task, 0, MAX_TIME)
+        } else {
+            Ok(0)
         }
-        self.number(Field::Enabling, mode, task, 0, MAX_TIME)
     }
 
     fn enabling(&mut self, modes: u8, mode: u8, task: u8) -> Result<[u16; MODES], Fault>
@@ -63,16 +81,18 @@ impl BitReader<'_> {
         ensures near { λ _. ⌜ now (self .exit) .at ≤ now (self .entry) .at + 176 ⌝ }
         ensures bytes { λ _. ⌜ now (self .exit) .bytes .now ≡ now (self .entry) .bytes .now ⌝ }
     {
-        let cost = self.number(Field::Cost, mode, task, 1, MAX_COST)?;
-        let deadline = self.number(Field::Deadline, mode, task, cost, MAX_TIME)?;
-        let separation = self.number(Field::Separation, mode, task, deadline, MAX_TIME)?;
-        let enabling = self.enabling(modes, mode, task)?;
-        Ok(Task {
-            cost,
-            deadline,
-            separation,
-            enabling,
-        })
+        let mut read = Task::BLANK;
+        read.cost = self.number(Field::Cost, mode, task, 1, MAX_COST)?;
+        read.deadline = self.number(Field::Deadline, mode, task, read.least_deadline(), MAX_TIME)?;
+        read.separation = self.number(
+            Field::Separation,
+            mode,
+            task,
+            read.least_separation(),
+            MAX_TIME,
+        )?;
+        read.enabling = self.enabling(modes, mode, task)?;
+        Ok(read)
     }
 
     fn tasks(&mut self, modes: u8, mode: u8, count: u8) -> Result<[Task; TASKS], Fault>
@@ -131,8 +151,8 @@ impl BitReader<'_> {
     {
         let processors = self.number(Field::Processors, NONE, NONE, 0, LAST_PROCESSOR)?;
         let last = self.number(Field::Modes, NONE, NONE, 0, LAST_MODE)?;
-        let start = self.number(Field::Start, NONE, NONE, 0, last)?;
         let count = last as u8 + 1;
+        let start = self.number(Field::Start, NONE, NONE, 0, last_mode(count))?;
         let modes = self.modes(count)?;
         Ok(Plan {
             processors: processors as u8 + 1,

@@ -1,6 +1,10 @@
 // The tables of a plan, as a board holds them: fixed arrays with counts.
 // Places past a count hold zeros, so that equal plans are equal tables.
 
+ghost use mathlib.Core.Path.{_≡_};
+ghost use Rattle.plan.specs.Held.{plan-table};
+ghost use Rattle.plan.specs.Builtin.{least};
+
 // The most processors of a board, the most modes of a plan, and the most tasks of a mode.
 pub const PROCESSORS: usize = 8;
 
@@ -31,6 +35,19 @@ impl Task {
         separation: 0,
         enabling: [0; MODES],
     };
+
+    // No job may run beyond its deadline, and a deadline lies before the next release.
+    pub(crate) fn least_deadline(&self) -> u16
+        ensures { λ r. ⌜ r ≡ now (self .entry) .cost ⌝ }
+    {
+        self.cost
+    }
+
+    pub(crate) fn least_separation(&self) -> u16
+        ensures { λ r. ⌜ r ≡ now (self .entry) .deadline ⌝ }
+    {
+        self.deadline
+    }
 }
 
 #[derive(Clone, Copy)]
@@ -54,4 +71,27 @@ pub struct Plan {
     pub start: u8,
     pub count: u8,
     pub modes: [Mode; MODES],
+}
+
+impl Plan {
+    // The least plan there is: one processor, one mode, and one task that runs for a tick.
+    pub(crate) fn least() -> Plan
+        ensures { λ r. ⌜ r ≡ plan-table least ⌝ }
+    {
+        let mut task = Task::BLANK;
+        task.cost = 1;
+        task.deadline = 1;
+        task.separation = 1;
+        let mut mode = Mode::BLANK;
+        mode.count = 1;
+        mode.tasks[0] = task;
+        let mut modes = [Mode::BLANK; MODES];
+        modes[0] = mode;
+        Plan {
+            processors: 1,
+            start: 0,
+            count: 1,
+            modes,
+        }
+    }
 }

@@ -1,28 +1,30 @@
 use mathlib.Core.Path.{refl, sym, ap, _∙_}
 use Prim.Native.Nat.{ℕ}
 use native.Mathlib.Omega.{arith}
-use Rattle.std.proofs.shelf.Tests.{cond-true, cond-false, eq-eqb, ne-eqb}
+use Rattle.std.proofs.shelf.Tests.{cond-true, cond-false, not-true, not-false}
 use Rattle.plan.specs.Bits.{bits}
 use Rattle.plan.specs.Layout.{Layout, whole}
 use Rattle.plan.specs.File.{enabling-layout}
 use Rattle.plan.proofs.bits.BitReader.enabling_deadline.Needs as need
 
-pub returns-then-old-mode : need.returns-then-old-mode
-unfolding enabling-layout whole
-returns-then-old-mode c =
-    let me = c .args .self .now in
-    record {
-      value = sym (ap (λ (l : Layout ℕ). l .read (bits (me .bytes .now)) (me .at)) (cond-true _ _ _ (eq-eqb (c .args .old) (c .args .mode) (c .if-old-mode .taken))));
-      near = omega arith;
-      bytes = refl;
-    }
-
-pub returns : need.returns
+pub returns-then-has-deadline : need.returns-then-has-deadline
 unfolding enabling-layout
-returns c =
+returns-then-has-deadline c =
     let me = c .args .self .now in
+    let other = not-true _ (sym (c .if-has-deadline .ensures tt)) in
     record {
-      value = c .number .ensures .value ∙ sym (ap (λ (l : Layout ℕ). l .read (bits (me .bytes .now)) (me .at)) (cond-false _ _ _ (ne-eqb (c .args .old) (c .args .mode) (c .if-old-mode .left))));
+      value = c .number .ensures .value ∙ sym (ap (λ (l : Layout ℕ). l .read (bits (me .bytes .now)) (me .at)) (cond-false _ _ _ other));
       near = c .number .ensures .near;
       bytes = c .number .ensures .bytes;
+    }
+
+pub returns-else-has-deadline : need.returns-else-has-deadline
+unfolding enabling-layout whole
+returns-else-has-deadline c =
+    let me = c .args .self .now in
+    let own = not-false _ (sym (c .if-has-deadline .ensures tt)) in
+    record {
+      value = sym (ap (λ (l : Layout ℕ). l .read (bits (me .bytes .now)) (me .at)) (cond-true _ _ _ own));
+      near = omega arith;
+      bytes = refl;
     }

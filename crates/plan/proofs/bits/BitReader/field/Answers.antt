@@ -1,5 +1,4 @@
 use mathlib.Core.List.{List}
-use mathlib.Core.Logic.{⊎-elim, inl, inr}
 use mathlib.Core.Path.{_≡_, refl, sym, ap, _∙_}
 use Prim.Native.Nat.{ℕ, _+_}
 use native.Mathlib.Omega.{arith}
@@ -10,35 +9,35 @@ use Rattle.plan.specs.declared.fault.Refusal.the-variants.{Ended, OutOfRange}
 use Rattle.plan.specs.Bits.{bits, taken}
 use Rattle.plan.specs.Faults.{told}
 use Rattle.plan.specs.Layout.{Reading, width}
-use Rattle.plan.proofs.Limits.{narrow, reads-none, reads-outside, reads-inside}
+use Rattle.plan.proofs.Limits.{narrow, inside, reads-none, reads-outside, reads-inside}
 use Rattle.plan.proofs.bits.BitReader.field.Needs as need
 
 -- what was taken, at the field's own width
 at-width : (bs : List ℕ) (at : ℕ) (w v : ℕ) (o : Option ℕ) → w ≡ v → o ≡ taken w bs at → taken v bs at ≡ o
 at-width bs at w v o same e = ap (λ x. taken x bs at) (sym same) ∙ sym e
 
-pub returns-then-value-least : need.returns-then-value-least
-returns-then-value-least c =
+pub returns-then-not-in-range : need.returns-then-not-in-range
+returns-then-not-in-range c =
     let me = c .args .self .now in
     let got = c .in-Ok .ensures tt in
     record {
       value = λ mode task.
           ap (λ (b : ℕ). Err (told OutOfRange (c .args .field) mode task b)) (c .place-bit .ensures)
-          ∙ sym (reads-outside (c .args .field) mode task (c .args .least) (c .args .most) (bits (me .bytes .now)) (me .at) (c .in-Ok .value) (at-width _ _ _ _ _ (c .width .ensures) (got .value)) (⊎-elim inl (λ h. inr (h .1)) (c .then-value-least .either)));
+          ∙ sym (reads-outside (c .args .field) mode task (c .args .least) (c .args .most) (bits (me .bytes .now)) (me .at) (c .in-Ok .value) (at-width _ _ _ _ _ (c .width .ensures) (got .value)) (sym (c .if-not-in-range .ensures tt)));
       within = tt;
       near = omega (arith, got .place, narrow (c .args .field), c .width .ensures);
       bytes = got .bytes;
     }
 
-pub returns-else-value-most : need.returns-else-value-most
-returns-else-value-most c =
+pub returns-else-not-in-range : need.returns-else-not-in-range
+returns-else-not-in-range c =
     let me = c .args .self .now in
     let got = c .in-Ok .ensures tt in
     record {
       value = λ mode task.
           ap (λ (at : ℕ). Ok (c .in-Ok .value, at)) (got .place ∙ ap (λ w. me .at + w) (c .width .ensures))
-          ∙ sym (reads-inside (c .args .field) mode task (c .args .least) (c .args .most) (bits (me .bytes .now)) (me .at) (c .in-Ok .value) (at-width _ _ _ _ _ (c .width .ensures) (got .value)) (c .if-value-least .left) (c .if-value-most .left));
-      within = (c .if-value-least .left, c .if-value-most .left);
+          ∙ sym (reads-inside (c .args .field) mode task (c .args .least) (c .args .most) (bits (me .bytes .now)) (me .at) (c .in-Ok .value) (at-width _ _ _ _ _ (c .width .ensures) (got .value)) (sym (c .if-not-in-range .ensures tt)));
+      within = inside (c .args .least) (c .args .most) (c .in-Ok .value) (sym (c .if-not-in-range .ensures tt));
       near = omega (arith, got .place, narrow (c .args .field), c .width .ensures);
       bytes = got .bytes;
     }

@@ -1,5 +1,5 @@
 use mathlib.Core.List.{map}
-use mathlib.Core.Path.{_≡_, sym, _∙_}
+use mathlib.Core.Path.{_≡_, refl, sym, _∙_}
 use Prim.Native.Nat.{_+_}
 use native.Mathlib.Omega.{arith}
 use lib.ListN.{length}
@@ -11,7 +11,7 @@ use Rattle.plan.specs.Faults.{none}
 use Rattle.plan.specs.Held.{padded, blank-mode, mode-table}
 use Rattle.plan.specs.Layout.{field, part, whole, each}
 use Rattle.plan.specs.File.{plan-layout, mode-layout}
-use Rattle.plan.proofs.Exits.{stopped, over, over-form, read-from, refused-from}
+use Rattle.plan.proofs.Exits.{stopped, over, over-field, over-form, read-from, refused-from}
 use Rattle.plan.proofs.Loops.{each-length}
 use Rattle.plan.proofs.bits.BitReader.plan.Needs as need
 use Rattle.plan.proofs.bits.BitReader.plan.Needs.{In-Continue-processors, In-Continue-last, In-Continue-start}
@@ -24,7 +24,9 @@ last-read : (c : In-Continue-last) → field Modes none none 0 7 .read (bits (c 
 last-read c = over (field Modes none none 0 7) _ _ (c .in-Continue-processors .ensures tt .bytes) (c .in-Continue-last .ensures tt .value)
 
 start-read : (c : In-Continue-start) → field Start none none 0 (c .in-Continue-last .last) .read (bits (c .args .self .now .bytes .now)) (c .number-2 .last .self .at) ≡ Ok (c .in-Continue-start .start, c .number-3 .last .self .at)
-start-read c = over (field Start none none 0 (c .in-Continue-last .last)) _ _ (c .in-Continue-last .ensures tt .bytes ∙ c .in-Continue-processors .ensures tt .bytes) (c .in-Continue-start .ensures tt .value)
+start-read c =
+    let most : c .last-mode .result ≡ c .in-Continue-last .last = omega (arith, c .last-mode .ensures) in
+    over-field Start none none 0 (c .in-Continue-last .last) _ _ refl most (c .in-Continue-last .ensures tt .bytes ∙ c .in-Continue-processors .ensures tt .bytes) (c .in-Continue-start .ensures tt .value)
 
 pub returns-in-Break-processors : need.returns-in-Break-processors
 unfolding plan-layout part
@@ -55,7 +57,8 @@ returns-in-Break-start c =
     let processors = c .in-Continue-processors .ensures tt in
     let last = c .in-Continue-last .ensures tt in
     let told = c .in-Break-start .ensures tt in
-    let read = over (field Start none none 0 (c .in-Continue-last .last)) _ _ (last .bytes ∙ processors .bytes) (told .value) in
+    let most : c .last-mode .result ≡ c .in-Continue-last .last = omega (arith, c .last-mode .ensures) in
+    let read = over-field Start none none 0 (c .in-Continue-last .last) _ _ refl most (last .bytes ∙ processors .bytes) (told .value) in
     record {
       value = stopped (c .from-residual-in-Break-start .result) (c .in-Break-start .field-0 .0) _ (c .from-residual-in-Break-start .ensures .1) ∙ rw (processors-read (need.at·returns-in-Break-start c .In-Continue-processors), last-read (need.at·returns-in-Break-start c .In-Continue-last), read);
       near = omega (arith, processors .near, last .near, told .near);

@@ -4,6 +4,7 @@ use Prim.Native.Nat.{ℕ, _+_, _*_, _/_, _<_, _≤_}
 use native.Mathlib.Omega.{arith}
 use lib.ListN.{length, drop}
 use Rattle.std.specs.declared.option.Option.the-variants.{Some}
+use Rattle.std.proofs.shelf.Tests.{leb-true, leb-false}
 use Rattle.plan.specs.Bits.{bits}
 use Rattle.plan.specs.Decode.{stray, byte-end}
 use Rattle.plan.proofs.Numbers.{length-bits}
@@ -25,16 +26,16 @@ loop-at-again c =
     let me = c .args .self .now in
     c .loop-at .inv ∙ stray-next (c .div-ceil-end .result * 8) (bits (me .bytes .now)) (c .loop-at .at) (omega (arith, length-bits (me .bytes .now))) (c .loop-at-test .taken) (λ one. c .if-bit-eq1 .left (c .bit .ensures ∙ one))
 
-pub returns-then-end-self : need.returns-then-end-self
-returns-then-end-self c =
+pub returns-else-has : need.returns-else-has
+returns-else-has c =
     let me = c .args .self .now in
-    let over = stray-none (c .div-ceil-end .result * 8) (bits (me .bytes .now)) (c .loop-at .at) (omega (arith, length-bits (me .bytes .now))) in
+    let over = stray-none (c .div-ceil-end .result * 8) (bits (me .bytes .now)) (c .loop-at .at) (omega (arith, length-bits (me .bytes .now), leb-false _ _ (sym (c .if-has .ensures tt)))) in
     sym (at-end (bits (me .bytes .now)) (me .at) (c .div-ceil-end .result * 8) (omega arith) ∙ c .loop-at .inv ∙ over)
 
-pub returns-else-end-self : need.returns-else-end-self
-returns-else-end-self c =
+pub returns-then-has : need.returns-then-has
+returns-then-has c =
     let me = c .args .self .now in
-    let more : c .loop-at .at < length (bits (me .bytes .now)) = omega (arith, length-bits (me .bytes .now)) in
+    let more : c .loop-at .at < length (bits (me .bytes .now)) = omega (arith, length-bits (me .bytes .now), leb-true _ _ (sym (c .if-has .ensures tt))) in
     let past = stray-past (c .div-ceil-end .result * 8) (bits (me .bytes .now)) (c .loop-at .at) more (c .loop-at-test .left) in
     let same : c .loop-at .at ≡ c .div-ceil-end .result * 8 = omega arith in
     sym (at-end (bits (me .bytes .now)) (me .at) (c .div-ceil-end .result * 8) (omega arith) ∙ c .loop-at .inv ∙ past ∙ ap (λ (n : ℕ). Some n) same)

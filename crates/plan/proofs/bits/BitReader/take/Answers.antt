@@ -5,23 +5,27 @@ use lib.ListN.{length, take, drop}
 use lib.Pow.{pow-mono}
 use Rattle.std.specs.shelf.Digits.{number}
 use Rattle.std.specs.declared.option.Option.the-variants.{Some}
+use Rattle.std.proofs.shelf.Tests.{leb-true, leb-false}
 use Rattle.plan.specs.Bits.{bits}
 use Rattle.plan.proofs.Numbers.{length-bits}
 use Rattle.plan.proofs.Binary.{bit-below, number-next, pow-next, taken-none, taken-some}
 use Rattle.plan.proofs.bits.BitReader.take.Needs as need
 
-pub returns-then-div-ceil-self : need.returns-then-div-ceil-self
-returns-then-div-ceil-self c = record {
-  value = taken-none (c .args .width) (bits (c .args .self .now .bytes .now)) (c .args .self .now .at) (omega (arith, length-bits (c .args .self .now .bytes .now)));
-  refused = refl;
-  place = refl;
-  bytes = refl;
-}
+pub returns-then-not-has : need.returns-then-not-has
+returns-then-not-has c =
+    let past = leb-false _ _ (sym (c .if-not-has .ensures tt)) in
+    record {
+      value = taken-none (c .args .width) (bits (c .args .self .now .bytes .now)) (c .args .self .now .at) (omega (arith, length-bits (c .args .self .now .bytes .now), past));
+      refused = c .short .ensures;
+      place = refl;
+      bytes = refl;
+    }
 
 -- one bit more keeps within one power of two more
 below : (c : need.After-bit) → c .loop-at .value * 2 + c .bit .result < 2 ^ (c .loop-at .at + 1 - c .args .self .now .at)
 below c =
-    let bit : c .bit .result < 2 = rw (c .bit .ensures) (bit-below (c .args .self .now .bytes .now) (c .loop-at .at) (omega arith)) in
+    let room = leb-true _ _ (sym (c .if-not-has .ensures tt)) in
+    let bit : c .bit .result < 2 = rw (c .bit .ensures) (bit-below (c .args .self .now .bytes .now) (c .loop-at .at) (omega (arith, room))) in
     rw (pow-next (c .args .self .now .at) (c .loop-at .at) (c .loop-at .kept .at)) (omega (arith, c .loop-at .inv .1))
 
 pub add-value : need.add-value
@@ -31,18 +35,20 @@ add-value c =
 
 pub loop-at-again : need.loop-at-again
 loop-at-again c =
+    let room = leb-true _ _ (sym (c .if-not-has .ensures tt)) in
     let bytes = c .args .self .now .bytes .now in
-    let within : c .loop-at .at < length (bits bytes) = omega (arith, length-bits bytes) in
+    let within : c .loop-at .at < length (bits bytes) = omega (arith, length-bits bytes, room) in
     let next = number-next (bits bytes) (c .args .self .now .at) (c .loop-at .at) (c .loop-at .kept .at) within in
     ((λ i. c .loop-at .inv .0 i * 2 + c .bit .ensures i) ∙ sym next, below c)
 
 pub returns : need.returns
 returns c =
+    let room = leb-true _ _ (sym (c .if-not-has .ensures tt)) in
     let bytes = c .args .self .now .bytes .now in
     let all : c .loop-at .at - c .args .self .now .at ≡ c .args .width = omega arith in
     let value = rw all at (c .loop-at .inv .0) in
     record {
-      value = ap (λ (n : ℕ). Some n) value ∙ taken-some (c .args .width) (bits bytes) (c .args .self .now .at) (omega (arith, length-bits bytes));
+      value = ap (λ (n : ℕ). Some n) value ∙ taken-some (c .args .width) (bits bytes) (c .args .self .now .at) (omega (arith, length-bits bytes, room));
       refused = tt;
       place = refl;
       bytes = refl;

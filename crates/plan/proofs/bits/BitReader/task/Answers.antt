@@ -9,67 +9,67 @@ use Rattle.plan.specs.Bits.{bits}
 use Rattle.plan.specs.Held.{padded}
 use Rattle.plan.specs.Layout.{Reading, field, part, whole, each}
 use Rattle.plan.specs.File.{task-layout, enabling-layout}
-use Rattle.plan.proofs.Exits.{Read, stopped, over, read-from, refused-from}
+use Rattle.plan.proofs.Exits.{stopped, over-field, read-from, refused-from}
 use Rattle.plan.proofs.bits.BitReader.task.Needs as need
-use Rattle.plan.proofs.bits.BitReader.task.Needs.{In-Continue-cost, In-Continue-deadline, In-Continue-separation}
+use Rattle.plan.proofs.bits.BitReader.task.Needs.{In-Continue-read, In-Continue-read-2, In-Continue-read-3}
 
 -- the parts as they were read, from the bytes that the reader began with
-cost-read : (c : In-Continue-cost) → field Cost (c .args .mode) (c .args .task) 1 4095 .read (bits (c .args .self .now .bytes .now)) (c .args .self .now .at) ≡ Ok (c .in-Continue-cost .cost, c .number .last .self .at)
-cost-read c = sym (c .in-Continue-cost .ensures tt .value)
+cost-read : (c : In-Continue-read) → field Cost (c .args .mode) (c .args .task) 1 4095 .read (bits (c .args .self .now .bytes .now)) (c .args .self .now .at) ≡ Ok (c .in-Continue-read .field-0, c .number .last .self .at)
+cost-read c = sym (c .in-Continue-read .ensures tt .value)
 
-deadline-read : (c : In-Continue-deadline) → field Deadline (c .args .mode) (c .args .task) (c .in-Continue-cost .cost) 65535 .read (bits (c .args .self .now .bytes .now)) (c .number .last .self .at) ≡ Ok (c .in-Continue-deadline .deadline, c .number-2 .last .self .at)
-deadline-read c = over (field Deadline (c .args .mode) (c .args .task) (c .in-Continue-cost .cost) 65535) _ _ (c .in-Continue-cost .ensures tt .bytes) (c .in-Continue-deadline .ensures tt .value)
+deadline-read : (c : In-Continue-read-2) → field Deadline (c .args .mode) (c .args .task) (c .in-Continue-read .field-0) 65535 .read (bits (c .args .self .now .bytes .now)) (c .number .last .self .at) ≡ Ok (c .in-Continue-read-2 .field-0, c .number-2 .last .self .at)
+deadline-read c = over-field Deadline _ _ _ _ _ _ (c .least-deadline .ensures) refl (c .in-Continue-read .ensures tt .bytes) (c .in-Continue-read-2 .ensures tt .value)
 
-separation-read : (c : In-Continue-separation) → field Separation (c .args .mode) (c .args .task) (c .in-Continue-deadline .deadline) 65535 .read (bits (c .args .self .now .bytes .now)) (c .number-2 .last .self .at) ≡ Ok (c .in-Continue-separation .separation, c .number-3 .last .self .at)
-separation-read c = over (field Separation (c .args .mode) (c .args .task) (c .in-Continue-deadline .deadline) 65535) _ _ (c .in-Continue-deadline .ensures tt .bytes ∙ c .in-Continue-cost .ensures tt .bytes) (c .in-Continue-separation .ensures tt .value)
+separation-read : (c : In-Continue-read-3) → field Separation (c .args .mode) (c .args .task) (c .in-Continue-read-2 .field-0) 65535 .read (bits (c .args .self .now .bytes .now)) (c .number-2 .last .self .at) ≡ Ok (c .in-Continue-read-3 .field-0, c .number-3 .last .self .at)
+separation-read c = over-field Separation _ _ _ _ _ _ (c .least-separation .ensures) refl (c .in-Continue-read-2 .ensures tt .bytes ∙ c .in-Continue-read .ensures tt .bytes) (c .in-Continue-read-3 .ensures tt .value)
 
-pub returns-in-Break-cost : need.returns-in-Break-cost
+pub returns-in-Break-read : need.returns-in-Break-read
 unfolding task-layout part
-returns-in-Break-cost c =
-    let told = c .in-Break-cost .ensures tt in
+returns-in-Break-read c =
+    let told = c .in-Break-read .ensures tt in
     let read = sym (told .value) in
     record {
-      value = stopped (c .from-residual .result) (c .in-Break-cost .field-0 .0) _ (c .from-residual .ensures .1) ∙ rw read;
+      value = stopped (c .from-residual .result) (c .in-Break-read .field-0 .0) _ (c .from-residual .ensures .1) ∙ rw read;
       near = omega (arith, told .near);
       bytes = told .bytes;
     }
 
-pub returns-in-Break-deadline : need.returns-in-Break-deadline
+pub returns-in-Break-read-2 : need.returns-in-Break-read-2
 unfolding task-layout part
-returns-in-Break-deadline c =
-    let cost = c .in-Continue-cost .ensures tt in
-    let told = c .in-Break-deadline .ensures tt in
-    let read = over (field Deadline (c .args .mode) (c .args .task) (c .in-Continue-cost .cost) 65535) _ _ (cost .bytes) (told .value) in
+returns-in-Break-read-2 c =
+    let cost = c .in-Continue-read .ensures tt in
+    let told = c .in-Break-read-2 .ensures tt in
+    let read = over-field Deadline (c .args .mode) (c .args .task) (c .in-Continue-read .field-0) 65535 _ _ (c .least-deadline .ensures) refl (cost .bytes) (told .value) in
     record {
-      value = stopped (c .from-residual-in-Break-deadline .result) (c .in-Break-deadline .field-0 .0) _ (c .from-residual-in-Break-deadline .ensures .1) ∙ rw (cost-read (need.at·returns-in-Break-deadline c .In-Continue-cost), read);
+      value = stopped (c .from-residual-in-Break-read-2 .result) (c .in-Break-read-2 .field-0 .0) _ (c .from-residual-in-Break-read-2 .ensures .1) ∙ rw (cost-read (need.at·returns-in-Break-read-2 c .In-Continue-read), read);
       near = omega (arith, cost .near, told .near);
       bytes = told .bytes ∙ cost .bytes;
     }
 
-pub returns-in-Break-separation : need.returns-in-Break-separation
+pub returns-in-Break-read-3 : need.returns-in-Break-read-3
 unfolding task-layout part
-returns-in-Break-separation c =
-    let cost = c .in-Continue-cost .ensures tt in
-    let deadline = c .in-Continue-deadline .ensures tt in
-    let told = c .in-Break-separation .ensures tt in
-    let read = over (field Separation (c .args .mode) (c .args .task) (c .in-Continue-deadline .deadline) 65535) _ _ (deadline .bytes ∙ cost .bytes) (told .value) in
+returns-in-Break-read-3 c =
+    let cost = c .in-Continue-read .ensures tt in
+    let deadline = c .in-Continue-read-2 .ensures tt in
+    let told = c .in-Break-read-3 .ensures tt in
+    let read = over-field Separation (c .args .mode) (c .args .task) (c .in-Continue-read-2 .field-0) 65535 _ _ (c .least-separation .ensures) refl (deadline .bytes ∙ cost .bytes) (told .value) in
     record {
-      value = stopped (c .from-residual-in-Break-separation .result) (c .in-Break-separation .field-0 .0) _ (c .from-residual-in-Break-separation .ensures .1) ∙ rw (cost-read (need.at·returns-in-Break-separation c .In-Continue-cost), deadline-read (need.at·returns-in-Break-separation c .In-Continue-deadline), read);
+      value = stopped (c .from-residual-in-Break-read-3 .result) (c .in-Break-read-3 .field-0 .0) _ (c .from-residual-in-Break-read-3 .ensures .1) ∙ rw (cost-read (need.at·returns-in-Break-read-3 c .In-Continue-read), deadline-read (need.at·returns-in-Break-read-3 c .In-Continue-read-2), read);
       near = omega (arith, cost .near, deadline .near, told .near);
       bytes = told .bytes ∙ deadline .bytes ∙ cost .bytes;
     }
 
-pub returns-in-Break-enabling : need.returns-in-Break-enabling
+pub returns-in-Break-read-4 : need.returns-in-Break-read-4
 unfolding task-layout part
-returns-in-Break-enabling c =
-    let cost = c .in-Continue-cost .ensures tt in
-    let deadline = c .in-Continue-deadline .ensures tt in
-    let separation = c .in-Continue-separation .ensures tt in
-    let told = c .in-Break-enabling .ensures tt in
+returns-in-Break-read-4 c =
+    let cost = c .in-Continue-read .ensures tt in
+    let deadline = c .in-Continue-read-2 .ensures tt in
+    let separation = c .in-Continue-read-3 .ensures tt in
+    let told = c .in-Break-read-4 .ensures tt in
     let before = separation .bytes ∙ deadline .bytes ∙ cost .bytes in
     let read = ap (λ bytes. each (c .args .modes) (enabling-layout (c .args .mode) (c .args .task)) .read (bits bytes) (c .number-3 .last .self .at)) (sym before) ∙ refused-from (padded 8 0) _ _ (told .value) in
     record {
-      value = stopped (c .from-residual-in-Break-enabling .result) (c .in-Break-enabling .field-0 .0) _ (c .from-residual-in-Break-enabling .ensures .1) ∙ rw (cost-read (need.at·returns-in-Break-enabling c .In-Continue-cost), deadline-read (need.at·returns-in-Break-enabling c .In-Continue-deadline), separation-read (need.at·returns-in-Break-enabling c .In-Continue-separation), read);
+      value = stopped (c .from-residual-in-Break-read-4 .result) (c .in-Break-read-4 .field-0 .0) _ (c .from-residual-in-Break-read-4 .ensures .1) ∙ rw (cost-read (need.at·returns-in-Break-read-4 c .In-Continue-read), deadline-read (need.at·returns-in-Break-read-4 c .In-Continue-read-2), separation-read (need.at·returns-in-Break-read-4 c .In-Continue-read-3), read);
       near = omega (arith, cost .near, deadline .near, separation .near, told .near);
       bytes = told .bytes ∙ before;
     }
@@ -77,16 +77,16 @@ returns-in-Break-enabling c =
 pub returns : need.returns
 unfolding task-layout part whole
 returns c =
-    let cost = c .in-Continue-cost .ensures tt in
-    let deadline = c .in-Continue-deadline .ensures tt in
-    let separation = c .in-Continue-separation .ensures tt in
-    let enabling = c .in-Continue-enabling .ensures tt in
+    let cost = c .in-Continue-read .ensures tt in
+    let deadline = c .in-Continue-read-2 .ensures tt in
+    let separation = c .in-Continue-read-3 .ensures tt in
+    let enabling = c .in-Continue-read-4 .ensures tt in
     let before = separation .bytes ∙ deadline .bytes ∙ cost .bytes in
-    let listed = read-from (padded 8 0) _ (c .in-Continue-enabling .enabling) (c .enabling .last .self .at) (enabling .value) in
+    let listed = read-from (padded 8 0) _ (c .in-Continue-read-4 .field-0) (c .enabling .last .self .at) (enabling .value) in
     let read = ap (λ bytes. each (c .args .modes) (enabling-layout (c .args .mode) (c .args .task)) .read (bits bytes) (c .number-3 .last .self .at)) (sym before) ∙ listed .reads in
-    let filled : List ℕ → Reading Task = λ es. Ok (record { cost = c .in-Continue-cost .cost; deadline = c .in-Continue-deadline .deadline; separation = c .in-Continue-separation .separation; enabling = es }, c .enabling .last .self .at) in
+    let filled : List ℕ → Reading Task = λ es. Ok (record { cost = c .in-Continue-read .field-0; deadline = c .in-Continue-read-2 .field-0; separation = c .in-Continue-read-3 .field-0; enabling = es }, c .enabling .last .self .at) in
     record {
-      value = rw (cost-read (need.at·returns c .In-Continue-cost), deadline-read (need.at·returns c .In-Continue-deadline), separation-read (need.at·returns c .In-Continue-separation), read) (ap filled (listed .same));
+      value = rw (cost-read (need.at·returns c .In-Continue-read), deadline-read (need.at·returns c .In-Continue-read-2), separation-read (need.at·returns c .In-Continue-read-3), read) (ap filled (listed .same));
       near = omega (arith, cost .near, deadline .near, separation .near, enabling .near);
       bytes = enabling .bytes ∙ before;
     }
