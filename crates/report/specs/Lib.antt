@@ -1,0 +1,4 @@
+pub mod Line
+pub mod FaultText
+pub mod PlanText
+pub mod FileText

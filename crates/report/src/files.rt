@@ -1,0 +1,23 @@
+// The text of a plan file, from its bytes.
+ghost use mathlib.Core.Path.{_≡_};
+ghost use Rattle.std.specs.Of.String.{string-bytes};
+ghost use Rattle.std.specs.Vec.{made};
+ghost use Rattle.plan.specs.Decode.{decode};
+ghost use Rattle.report.specs.FileText.{file-text};
+use crate::faults::fault_text;
+use crate::plans::draft_text;
+use plan::Draft;
+use plan::read;
+use std::alloc::AllocError;
+use std::alloc::Global;
+
+// What the file says, or why it is refused.
+pub fn file_text(heap: Global, bytes: &[u8]) -> Result<String, AllocError>
+    ensures { λ r. ⌜ made r (λ s. string-bytes s ≡ file-text (decode (now (bytes .entry)))) ⌝ }
+{
+    let mut draft = Draft::least();
+    match read(bytes, &mut draft) {
+        Ok(()) => draft_text(heap, &draft),
+        Err(fault) => fault_text(heap, &fault),
+    }
+}
