@@ -2,7 +2,7 @@
 ghost use mathlib.Core.Path.{_≡_};
 ghost use mathlib.Core.Bool.{cond};
 ghost use Prim.Native.Nat.{_+_, _*_, _^_, _<_, _≤_};
-ghost use lib.Dec.{leb};
+ghost use lib.Dec.{leb, eqb};
 ghost use lib.ListN.{length, getD, drop};
 ghost use Rattle.std.specs.Results.{isOk, okPart};
 ghost use Rattle.std.specs.Vec.{refused};
@@ -59,6 +59,13 @@ impl<'a> BitReader<'a> {
         (self.bytes[(at / 8) as usize] >> (7 - at % 8)) & 1
     }
 
+    fn is_set(&self, at: u32) -> bool
+        requires { ⌜ at < 8 * length (now self .bytes .now) ⌝ }
+        ensures { λ r. ⌜ r ≡ eqb (getD (bits (now (self .entry) .bytes .now)) at 0) 1 ⌝ }
+    {
+        self.bit(at) == 1
+    }
+
     // The number in the next `width` bits.
     pub(crate) fn take(&mut self, width: u32) -> Result<u16, Short>
         requires narrow { ⌜ width ≤ 16 ⌝ }
@@ -88,7 +95,7 @@ impl<'a> BitReader<'a> {
     {
         let end = self.at.div_ceil(8) * 8;
         for at in self.at..end {
-            if self.bit(at) == 1 {
+            if self.is_set(at) {
                 return Some(at);
             }
         }

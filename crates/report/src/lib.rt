@@ -3,9 +3,12 @@ mod cells;
 mod faults;
 mod files;
 mod held;
+mod loads;
 mod plans;
 mod tables;
 
 pub use faults::fault_text;
 pub use files::file_text;
+pub use loads::MOST_BYTES;
+pub use loads::plan_bytes;
 pub use plans::draft_text;

@@ -4,7 +4,7 @@ use Prim.Native.Nat.{ℕ, _+_, _*_, _/_, _<_, _≤_}
 use native.Mathlib.Omega.{arith}
 use lib.ListN.{length, drop}
 use Rattle.std.specs.declared.option.Option.the-variants.{Some}
-use Rattle.std.proofs.shelf.Tests.{leb-true, leb-false}
+use Rattle.std.proofs.shelf.Tests.{leb-true, leb-false, eqb-true, eqb-false}
 use Rattle.plan.specs.Bits.{bits}
 use Rattle.plan.specs.Decode.{stray, byte-end}
 use Rattle.plan.proofs.Numbers.{length-bits}
@@ -15,16 +15,16 @@ use Rattle.plan.proofs.bits.BitReader.stray.Needs as need
 at-end : (bs : List ℕ) (at end : ℕ) → end ≡ byte-end at → stray (byte-end at) (drop at bs) at ≡ stray end (drop at bs) at
 at-end bs at end e = ap (λ x. stray x (drop at bs) at) (sym e)
 
-pub returns-then-bit-eq1 : need.returns-then-bit-eq1
-returns-then-bit-eq1 c =
+pub returns-then-is-set : need.returns-then-is-set
+returns-then-is-set c =
     let me = c .args .self .now in
-    let found = stray-one (c .div-ceil-end .result * 8) (bits (me .bytes .now)) (c .loop-at .at) (omega (arith, length-bits (me .bytes .now))) (sym (c .bit .ensures) ∙ c .if-bit-eq1 .taken) in
+    let found = stray-one (c .div-ceil-end .result * 8) (bits (me .bytes .now)) (c .loop-at .at) (omega (arith, length-bits (me .bytes .now))) (eqb-true _ 1 (sym (c .if-is-set .ensures tt))) in
     sym (at-end (bits (me .bytes .now)) (me .at) (c .div-ceil-end .result * 8) (omega arith) ∙ c .loop-at .inv ∙ found)
 
 pub loop-at-again : need.loop-at-again
 loop-at-again c =
     let me = c .args .self .now in
-    c .loop-at .inv ∙ stray-next (c .div-ceil-end .result * 8) (bits (me .bytes .now)) (c .loop-at .at) (omega (arith, length-bits (me .bytes .now))) (c .loop-at-test .taken) (λ one. c .if-bit-eq1 .left (c .bit .ensures ∙ one))
+    c .loop-at .inv ∙ stray-next (c .div-ceil-end .result * 8) (bits (me .bytes .now)) (c .loop-at .at) (omega (arith, length-bits (me .bytes .now))) (c .loop-at-test .taken) (eqb-false _ 1 (sym (c .if-is-set .ensures tt)))
 
 pub returns-else-has : need.returns-else-has
 returns-else-has c =

@@ -1,0 +1,14 @@
+// Shows the plan file of the folder that it runs in, or why the file is refused.
+use report::file_text;
+use report::plan_bytes;
+use std::error::AnyError;
+
+fn run(rt: &LibcRuntime) -> Result<(), AnyError> {
+    let bytes = plan_bytes(rt, "plan.bin")?;
+    rt.print(file_text(rt.alloc(), &bytes)?)?;
+    Ok(())
+}
+
+fn main(rt: LibcRuntime) -> Result<(), AnyError> {
+    rt.report(run(&rt))
+}

@@ -1,0 +1,43 @@
+// Shows a row of plan files, good and damaged, each as the program `judge` does.
+use report::file_text;
+use report::plan_bytes;
+use std::error::AnyError;
+
+// `missing.bin` is not there; `largest.bin` is a plan of the greatest length, 2,504 bytes.
+const FILES: [&str; 17] = [
+    "worked.bin",
+    "missing.bin",
+    "empty.bin",
+    "header.bin",
+    "last_bit.bin",
+    "byte_after.bin",
+    "long.bin",
+    "start.bin",
+    "rule.bin",
+    "cost.bin",
+    "deadline.bin",
+    "separation.bin",
+    "cut.bin",
+    "pad_and_byte.bin",
+    "least.bin",
+    "largest.bin",
+    "largest_and_byte.bin",
+];
+
+fn show(rt: &LibcRuntime, name: &str) -> Result<(), AnyError> {
+    let bytes = plan_bytes(rt, name)?;
+    println!(rt, "{name}")?;
+    rt.print(file_text(rt.alloc(), &bytes)?)?;
+    Ok(())
+}
+
+fn run(rt: &LibcRuntime) -> Result<(), AnyError> {
+    for name in FILES {
+        show(rt, name)?;
+    }
+    Ok(())
+}
+
+fn main(rt: LibcRuntime) -> Result<(), AnyError> {
+    rt.report(run(&rt))
+}

@@ -1,0 +1,31 @@
+// The bytes of a plan file.
+ghost use Prim.Native.Nat.{_≤_};
+ghost use Rattle.std.specs.Of.Vec.{vec-len};
+ghost use Rattle.std.specs.Vec.{made};
+use std::fs;
+use std::io;
+use std::io::ErrorKind;
+use std::io::Read;
+
+// One byte more than the longest plan has, which is enough to tell that a file goes on after its plan.
+pub const MOST_BYTES: usize = 2505;
+
+// The first bytes of a file, `MOST_BYTES` of them at most, and none where there is no such file.
+pub fn plan_bytes(rt: &LibcRuntime, path: &str) -> io::Result<Vec<u8>>
+    ensures { λ r. ⌜ made r (λ bytes. vec-len bytes ≤ 2505) ⌝ }
+{
+    let mut bytes = Vec::new(rt.alloc());
+    match fs::open(rt, path) {
+        Ok(file) => {
+            file.take(MOST_BYTES as u64).read_to_end(&mut bytes)?;
+        }
+        Err(error) => {
+            if error.kind() != ErrorKind::NotFound {
+                return Err(error);
+            }
+        }
+    }
+    // No contract tells how much `take` lets through, so the limit is set once more where it can be proved.
+    bytes.truncate(MOST_BYTES);
+    Ok(bytes)
+}
