@@ -1,9 +1,10 @@
 -- The table of worked examples, computed from the definitions. Assumes nothing.
 use mathlib.Core.Path.{refl}
-use Rattle.plan.specs.Bits.{binary, bits}
-use Rattle.plan.specs.Layout.{field, whole, part, read-each}
+use Rattle.fields.specs.Bits.{binary, bits}
+use Rattle.fields.specs.Layout.{field, whole, part, read-each}
 use Rattle.plan.specs.File.{enabling-layout, task-layout, mode-layout, plan-layout}
-use Rattle.plan.specs.Decode.{stray, decode}
+use Rattle.fields.specs.Padding.{stray}
+use Rattle.plan.specs.Decode.{decode}
 use Rattle.cases.specs.Table.{Facts}
 
 pub facts : Facts

@@ -6,7 +6,7 @@ use Rattle.std.specs.declared.result.Result.{Result}
 use Rattle.std.specs.declared.result.Result.the-variants.{Ok, Err}
 use Rattle.std.specs.shelf.Lists.{All}
 use Rattle.plan.specs.Decode.{decode}
-use Rattle.plan.specs.Faults.{Told, none}
+use Rattle.fields.specs.Faults.{Told, none}
 use Rattle.plan.specs.Plan.{Plan}
 
 -- a file, and what it is decoded as

@@ -10,12 +10,13 @@ use Rattle.std.specs.Results.{ErrBy, Cases}
 use Rattle.std.specs.declared.option.Option.{Option}
 use Rattle.std.specs.declared.result.Result.{Result}
 use Rattle.std.specs.declared.result.Result.the-variants.{Ok, Err}
-use Rattle.plan.specs.declared.fault.Fault.{Fault}
+use Rattle.fields.specs.declared.fault.Fault.{Fault}
 use Rattle.plan.specs.declared.tables.Plan.{Plan as PlanTable}
-use Rattle.plan.specs.Bits.{bits}
-use Rattle.plan.specs.Decode.{decode, closed, ended, stray, byte-end}
+use Rattle.fields.specs.Bits.{bits}
+use Rattle.fields.specs.Padding.{stray, byte-end}
+use Rattle.plan.specs.Decode.{decode, closed, ended}
 use Rattle.plan.specs.File.{plan-layout}
-use Rattle.plan.specs.Faults.{Told, numbers}
+use Rattle.fields.specs.Faults.{Told, numbers}
 use Rattle.plan.specs.Held.{plan-of, plan-table}
 use Rattle.plan.specs.Law.{numbered, tabled, Holds, Accepts-exactly}
 use Rattle.plan.specs.Plan.{Plan, Within}

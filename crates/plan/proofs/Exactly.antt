@@ -14,13 +14,14 @@ use Rattle.std.proofs.shelf.Elements.{all-drop}
 use Rattle.std.proofs.shelf.Lists.{drop-at}
 use Rattle.std.proofs.shelf.Results.{made-at-ok}
 use Rattle.std.proofs.shelf.Ways.{tells}
-use Rattle.plan.specs.Bits.{bits}
-use Rattle.plan.specs.Layout.{Reading}
+use Rattle.fields.specs.Bits.{bits}
+use Rattle.fields.specs.Layout.{Reading}
 use Rattle.plan.specs.Plan.{Plan, Within}
 use Rattle.plan.specs.File.{plan-layout}
-use Rattle.plan.specs.Decode.{byte-end, stray, ended, closed, decode, laid}
+use Rattle.fields.specs.Padding.{byte-end, stray}
+use Rattle.plan.specs.Decode.{ended, closed, decode, laid}
 use Rattle.plan.specs.Law.{Holds}
-use Rattle.plan.proofs.Numbers.{length-bits, under-bits}
+use Rattle.fields.proofs.Numbers.{length-bits, under-bits}
 use Rattle.plan.proofs.Lawful.{Stands, Found}
 use Rattle.plan.proofs.PlanLawful.{plan-lawful}
 

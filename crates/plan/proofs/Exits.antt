@@ -6,12 +6,12 @@ use native.Mathlib.Omega.{arith}
 use Rattle.std.specs.Results.{ErrBy}
 use Rattle.std.specs.declared.result.Result.{Result}
 use Rattle.std.specs.declared.result.Result.the-variants.{Ok, Err}
-use Rattle.plan.specs.declared.fault.Fault.{Fault}
-use Rattle.plan.specs.Faults.{Told, numbers}
-use Rattle.plan.specs.Bits.{bits}
-use Rattle.plan.specs.declared.fault.Field.{Field}
-use Rattle.plan.specs.Layout.{Layout, Reading, field}
-use Rattle.plan.specs.Readers.{answered, converted}
+use Rattle.fields.specs.declared.fault.Fault.{Fault}
+use Rattle.fields.specs.Faults.{Told, numbers}
+use Rattle.fields.specs.Bits.{bits}
+use Rattle.fields.specs.declared.fault.Field.{Field}
+use Rattle.fields.specs.Layout.{Layout, Reading, field}
+use Rattle.fields.specs.Readers.{answered, converted}
 
 -- the exit of a `?`
 pub stopped : {A : Type 0} (r : Result A Fault) (f : Fault) (at : ℕ) → ErrBy r (λ g. g ≡ f) → answered r at ≡ Err (numbers f)

@@ -17,10 +17,10 @@ use Rattle.std.proofs.shelf.Lists.{drop-at, drop-drop, take-at}
 use Rattle.std.proofs.shelf.Results.{made-weaker}
 use Rattle.std.proofs.shelf.Tests.{cond-both}
 use Rattle.std.proofs.shelf.Ways.{tells}
-use Rattle.plan.specs.declared.fault.Field.{Field}
-use Rattle.plan.specs.Bits.{binary, taken}
-use Rattle.plan.specs.Layout.{Layout, Reading, width, judged, field, followed, whole, part, write-each, read-each, each}
-use Rattle.plan.proofs.Numbers.{length-binary, number-binary, binary-number}
+use Rattle.fields.specs.declared.fault.Field.{Field}
+use Rattle.fields.specs.Bits.{binary, taken}
+use Rattle.fields.specs.Layout.{Layout, Reading, width, judged, field, followed, whole, part, write-each, read-each, each}
+use Rattle.fields.proofs.Numbers.{length-binary, number-binary, binary-number}
 
 -- some bits stand in a file from one bit up to another
 pub record Stands (bs : List ℕ) (at : ℕ) (xs : List ℕ) (end : ℕ) : Type 0 where
@@ -82,7 +82,7 @@ taken-from-stands w bs at n end small s =
 
 module _ (f : Field) (mode task least most : ℕ) where
   -- what is judged well is a number within its limits
-  judged-made : (F : ℕ × ℕ → Type 0) (at : ℕ) (o : Option ℕ) → ((n : ℕ) → o ≡ Some n → (least ≤ n) × (n ≤ most) → F (n, at + width f)) → made (judged f mode task least most at o) F
+  pub judged-made : (F : ℕ × ℕ → Type 0) (at : ℕ) (o : Option ℕ) → ((n : ℕ) → o ≡ Some n → (least ≤ n) × (n ≤ most) → F (n, at + width f)) → made (judged f mode task least most at o) F
   judged-made F at None found = tt
   judged-made F at (Some n) found = cond-both (leb least n && leb n most) _ _ (λ r. made r F) (λ e. found n refl (grind (arith, tells))) (λ e. tt)
 

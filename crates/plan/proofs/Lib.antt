@@ -1,10 +1,9 @@
-pub mod Numbers
 pub mod Lawful
 pub mod PlanLawful
 pub mod Exactly
-pub mod Binary
-pub mod Strays
-pub mod Limits
+pub mod Reach
+pub mod PlanReach
+pub mod Front
 pub mod Exits
 pub mod Loops
 pub mod LeastWithin

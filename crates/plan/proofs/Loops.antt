@@ -7,10 +7,10 @@ use lib.ListN.{length, set, getD, replicate, length-append}
 use Rattle.std.proofs.shelf.Lists.{map-push, length-push, length-map, map-id, set-at}
 use Rattle.std.specs.Vec.{made}
 use Rattle.std.specs.declared.result.Result.the-variants.{Ok, Err}
-use Rattle.plan.specs.Faults.{Told}
+use Rattle.fields.specs.Faults.{Told}
 use Rattle.plan.specs.Held.{padded}
-use Rattle.plan.specs.Layout.{Layout, Reading, followed, read-each}
-use Rattle.plan.specs.Readers.{converted}
+use Rattle.fields.specs.Layout.{Layout, Reading, followed, read-each}
+use Rattle.fields.specs.Readers.{converted}
 use Rattle.plan.proofs.Exits.{Read}
 use Rattle.plan.proofs.Lawful.{followed-made}
 

@@ -8,9 +8,9 @@ use lib.Dec.{eqb, lit<}
 use lib.ListN.{length, getD}
 use Rattle.std.proofs.shelf.Lists.{getD-past}
 use Rattle.std.proofs.shelf.Tests.{eqb-true, eqb-false, cases-lt, cond-both}
-use Rattle.plan.specs.declared.fault.Field.the-variants.{Processors, Modes, Start, Rule, Tasks, Cost, Deadline, Separation, Enabling}
-use Rattle.plan.specs.Faults.{none}
-use Rattle.plan.specs.Layout.{field, whole, each}
+use Rattle.fields.specs.declared.fault.Field.the-variants.{Processors, Modes, Start, Rule, Tasks, Cost, Deadline, Separation, Enabling}
+use Rattle.fields.specs.Faults.{none}
+use Rattle.fields.specs.Layout.{field, whole, each}
 use Rattle.plan.specs.Plan.{Mode, no-task, no-mode, TaskWithin, ModeWithin, Within}
 use Rattle.plan.specs.File.{enabling-layout, task-layout, mode-layout, plan-layout}
 use Rattle.plan.proofs.Lawful.{Lawful, lawful-like, field-lawful, whole-lawful, part-lawful, each-lawful}

@@ -1,30 +1,19 @@
 -- What a whole file says, and what the file of a plan is. Assumes nothing.
-use mathlib.Core.List.{List, [], _∷_, _++_}
-use mathlib.Core.Bool.{Bool, true, cond, _||_}
-use mathlib.Core.Path.{_≡_}
-use Prim.Native.Nat.{ℕ, _+_, _*_, _-_, _/_}
-use lib.Dec.{leb, eqb}
+use mathlib.Core.List.{List, _++_}
+use Prim.Native.Nat.{ℕ, _-_}
 use lib.ListN.{length, drop, replicate}
 use Rattle.std.specs.declared.option.Option.{Option}
 use Rattle.std.specs.declared.option.Option.the-variants.{Some, None}
 use Rattle.std.specs.declared.result.Result.{Result}
 use Rattle.std.specs.declared.result.Result.the-variants.{Ok, Err}
-use Rattle.plan.specs.declared.fault.Refusal.the-variants.{Trailing}
-use Rattle.plan.specs.declared.fault.Field.the-variants.{Padding}
-use Rattle.plan.specs.Bits.{bits}
-use Rattle.plan.specs.Faults.{Told, told, none}
-use Rattle.plan.specs.Layout.{Layout, Reading}
+use Rattle.fields.specs.declared.fault.Refusal.the-variants.{Trailing}
+use Rattle.fields.specs.declared.fault.Field.the-variants.{Padding}
+use Rattle.fields.specs.Bits.{bits}
+use Rattle.fields.specs.Padding.{byte-end, stray}
+use Rattle.fields.specs.Faults.{Told, told, none}
+use Rattle.fields.specs.Layout.{Layout, Reading}
 use Rattle.plan.specs.Plan.{Plan, Within}
 use Rattle.plan.specs.File.{plan-layout}
-
--- the end of the byte that a bit lies in, where it is not the first of one
-abbrev pub byte-end : ℕ → ℕ
-byte-end at = 8 * ((at + 7) / 8)
-
--- the earliest bit that is 1, or does not lie before the end
-unfoldable pub stray : ℕ → List ℕ → ℕ → Option ℕ
-stray end [] at = None
-stray end (b ∷ bs) at = cond (eqb b 1 || leb end at) (Some at) (stray end bs (at + 1))
 
 -- a plan after which nothing but padding comes
 abbrev pub ended : Plan → Option ℕ → Result Plan Told

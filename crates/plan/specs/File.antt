@@ -3,9 +3,9 @@ use mathlib.Core.Bool.{cond}
 use Prim.Native.Nat.{ℕ, _+_, _-_}
 use lib.Dec.{eqb}
 use lib.ListN.{length}
-use Rattle.plan.specs.declared.fault.Field.the-variants.{Processors, Modes, Start, Rule, Tasks, Cost, Deadline, Separation, Enabling}
-use Rattle.plan.specs.Faults.{none}
-use Rattle.plan.specs.Layout.{Layout, field, whole, part, each}
+use Rattle.fields.specs.declared.fault.Field.the-variants.{Processors, Modes, Start, Rule, Tasks, Cost, Deadline, Separation, Enabling}
+use Rattle.fields.specs.Faults.{none}
+use Rattle.fields.specs.Layout.{Layout, field, whole, part, each}
 use Rattle.plan.specs.Plan.{Task, Mode, Plan}
 
 -- the enabling deadline for old mode i of task k of mode j: none is written for j itself

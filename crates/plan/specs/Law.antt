@@ -3,14 +3,15 @@ use mathlib.Core.Bool.{Bool, true, false}
 use mathlib.Core.List.{List}
 use mathlib.Core.Path.{_≡_}
 use Prim.Native.Nat.{ℕ}
+use lib.ListN.{take}
 use Rattle.std.specs.declared.option.Option.{Option}
 use Rattle.std.specs.declared.option.Option.the-variants.{Some, None}
 use Rattle.std.specs.declared.result.Result.{Result}
 use Rattle.std.specs.declared.result.Result.the-variants.{Ok, Err}
-use Rattle.plan.specs.declared.fault.Fault.{Fault}
+use Rattle.fields.specs.declared.fault.Fault.{Fault}
 use Rattle.plan.specs.declared.tables.Plan.{Plan as PlanTable}
-use Rattle.plan.specs.Bits.{bits}
-use Rattle.plan.specs.Faults.{Told, numbers}
+use Rattle.fields.specs.Bits.{bits}
+use Rattle.fields.specs.Faults.{Told, numbers}
 use Rattle.plan.specs.Held.{plan-of, plan-table}
 use Rattle.plan.specs.Plan.{Plan, Within}
 use Rattle.plan.specs.Decode.{decode, laid}
@@ -46,6 +47,10 @@ Holds bytes p = Within p × (bits bytes ≡ laid p)
 -- a file is accepted exactly when it holds some plan, and then as that plan
 abbrev pub Accepts-exactly : List ℕ → Bool → Plan → Type 0
 Accepts-exactly bytes accepted plan = (accepted ≡ true → Holds bytes plan) × ((p : Plan) → Holds bytes p → (accepted ≡ true) × (plan ≡ p))
+
+-- the first 2,505 bytes of a file tell as much as the whole
+abbrev pub Front-tells : List ℕ → Type 0
+Front-tells bytes = decode (take 2505 bytes) ≡ decode bytes
 
 -- tables of the plan that a file is decoded as, and a fault that the decoding tells
 abbrev pub Drafted : List ℕ → PlanTable → Type 0

@@ -1,10 +1,6 @@
-pub mod Bits
-pub mod Faults
-pub mod Layout
 pub mod Plan
 pub mod File
 pub mod Decode
 pub mod Held
 pub mod Law
-pub mod Readers
 pub mod Builtin

@@ -4,15 +4,11 @@ ghost use mathlib.Core.List.{map};
 ghost use mathlib.Core.Bool.{not};
 ghost use Prim.Native.Nat.{_+_, _-_, _^_, _≤_};
 ghost use lib.Dec.{eqb};
-ghost use Rattle.plan.specs.Bits.{bits};
-ghost use Rattle.plan.specs.Layout.{each};
+ghost use Rattle.fields.specs.Bits.{bits as bits-of};
+ghost use Rattle.fields.specs.Layout.{each};
 ghost use Rattle.plan.specs.File.{enabling-layout, task-layout, mode-layout, plan-layout};
 ghost use Rattle.plan.specs.Held.{padded, blank-task, blank-mode, task-table, mode-table, plan-table};
-ghost use Rattle.plan.specs.Readers.{answered, converted};
-use crate::bits::BitReader;
-use crate::fault::Fault;
-use crate::fault::Field;
-use crate::fault::NONE;
+ghost use Rattle.fields.specs.Readers.{answered, converted};
 use crate::tables::MAX_COST;
 use crate::tables::MAX_RULE;
 use crate::tables::MAX_TIME;
@@ -22,6 +18,10 @@ use crate::tables::PROCESSORS;
 use crate::tables::Plan;
 use crate::tables::TASKS;
 use crate::tables::Task;
+use fields::BitReader;
+use fields::Fault;
+use fields::Field;
+use fields::NONE;
 
 // The greatest numbers in the fields that hold a count less one.
 const LAST_PROCESSOR: u16 = PROCESSORS as u16 - 1;
@@ -45,120 +45,119 @@ fn has_deadline(mode: u8, old: u8) -> bool
     old != mode
 }
 
-impl BitReader<'_> {
-    // The enabling deadline of a task for one old mode: the file has none for the task's own.
-    fn enabling_deadline(&mut self, mode: u8, task: u8, old: u8) -> Result<u16, Fault>
-        requires near { ⌜ now self .at ≤ 2 ^ 20 ⌝ }
-        ensures value { λ r. ⌜ answered r (now (self .exit) .at) ≡ enabling-layout mode task old .read (bits (now (self .entry) .bytes .now)) (now (self .entry) .at) ⌝ }
-        ensures near { λ _. ⌜ now (self .exit) .at ≤ now (self .entry) .at + 16 ⌝ }
-        ensures bytes { λ _. ⌜ now (self .exit) .bytes .now ≡ now (self .entry) .bytes .now ⌝ }
-    {
-        if has_deadline(mode, old) {
-            self.number(Field::Enabling, mode, task, 0, MAX_TIME)
-        } else {
-            Ok(0)
-        }
+// The enabling deadline of a task for one old mode: the file has none for the task's own.
+fn read_enabling_deadline(
+    bits: &mut BitReader<'_>,
+    mode: u8,
+    task: u8,
+    old: u8,
+) -> Result<u16, Fault>
+    ensures value { λ r. ⌜ answered r (now (bits .exit) .at) ≡ enabling-layout mode task old .read (bits-of (now (bits .entry) .bytes .now)) (now (bits .entry) .at) ⌝ }
+    ensures bytes { λ _. ⌜ now (bits .exit) .bytes .now ≡ now (bits .entry) .bytes .now ⌝ }
+{
+    if has_deadline(mode, old) {
+        bits.number(Field::Enabling, mode, task, 0, MAX_TIME)
+    } else {
+        Ok(0)
     }
+}
 
-    fn enabling(&mut self, modes: u8, mode: u8, task: u8) -> Result<[u16; MODES], Fault>
-        requires few { ⌜ modes ≤ 8 ⌝ }
-        requires near { ⌜ now self .at ≤ 2 ^ 19 ⌝ }
-        ensures value { λ r. ⌜ answered r (now (self .exit) .at) ≡ converted (padded 8 0) (each modes (enabling-layout mode task) .read (bits (now (self .entry) .bytes .now)) (now (self .entry) .at)) ⌝ }
-        ensures near { λ _. ⌜ now (self .exit) .at ≤ now (self .entry) .at + 128 ⌝ }
-        ensures bytes { λ _. ⌜ now (self .exit) .bytes .now ≡ now (self .entry) .bytes .now ⌝ }
-    {
-        let mut enabling = [0; MODES];
-        for old in 0..modes {
-            enabling[old as usize] = self.enabling_deadline(mode, task, old)?;
-        }
-        Ok(enabling)
+fn read_enabling(
+    bits: &mut BitReader<'_>,
+    modes: u8,
+    mode: u8,
+    task: u8,
+) -> Result<[u16; MODES], Fault>
+    requires few { ⌜ modes ≤ 8 ⌝ }
+    ensures value { λ r. ⌜ answered r (now (bits .exit) .at) ≡ converted (padded 8 0) (each modes (enabling-layout mode task) .read (bits-of (now (bits .entry) .bytes .now)) (now (bits .entry) .at)) ⌝ }
+    ensures bytes { λ _. ⌜ now (bits .exit) .bytes .now ≡ now (bits .entry) .bytes .now ⌝ }
+{
+    let mut enabling = [0; MODES];
+    for old in 0..modes {
+        enabling[old as usize] = read_enabling_deadline(bits, mode, task, old)?;
     }
+    Ok(enabling)
+}
 
-    fn task(&mut self, modes: u8, mode: u8, task: u8) -> Result<Task, Fault>
-        requires few { ⌜ modes ≤ 8 ⌝ }
-        requires near { ⌜ now self .at ≤ 2 ^ 18 ⌝ }
-        ensures value { λ r. ⌜ answered r (now (self .exit) .at) ≡ converted task-table (task-layout modes mode task .read (bits (now (self .entry) .bytes .now)) (now (self .entry) .at)) ⌝ }
-        ensures near { λ _. ⌜ now (self .exit) .at ≤ now (self .entry) .at + 176 ⌝ }
-        ensures bytes { λ _. ⌜ now (self .exit) .bytes .now ≡ now (self .entry) .bytes .now ⌝ }
-    {
-        let mut read = Task::BLANK;
-        read.cost = self.number(Field::Cost, mode, task, 1, MAX_COST)?;
-        read.deadline = self.number(Field::Deadline, mode, task, read.least_deadline(), MAX_TIME)?;
-        read.separation = self.number(
-            Field::Separation,
-            mode,
-            task,
-            read.least_separation(),
-            MAX_TIME,
-        )?;
-        read.enabling = self.enabling(modes, mode, task)?;
-        Ok(read)
-    }
+fn read_task(bits: &mut BitReader<'_>, modes: u8, mode: u8, task: u8) -> Result<Task, Fault>
+    requires few { ⌜ modes ≤ 8 ⌝ }
+    ensures value { λ r. ⌜ answered r (now (bits .exit) .at) ≡ converted task-table (task-layout modes mode task .read (bits-of (now (bits .entry) .bytes .now)) (now (bits .entry) .at)) ⌝ }
+    ensures bytes { λ _. ⌜ now (bits .exit) .bytes .now ≡ now (bits .entry) .bytes .now ⌝ }
+{
+    let mut read = Task::BLANK;
+    read.cost = bits.number(Field::Cost, mode, task, 1, MAX_COST)?;
+    read.deadline = bits.number(Field::Deadline, mode, task, read.least_deadline(), MAX_TIME)?;
+    read.separation = bits.number(
+        Field::Separation,
+        mode,
+        task,
+        read.least_separation(),
+        MAX_TIME,
+    )?;
+    read.enabling = read_enabling(bits, modes, mode, task)?;
+    Ok(read)
+}
 
-    fn tasks(&mut self, modes: u8, mode: u8, count: u8) -> Result<[Task; TASKS], Fault>
-        requires few { ⌜ modes ≤ 8 ⌝ }
-        requires room { ⌜ count ≤ 16 ⌝ }
-        requires near { ⌜ now self .at ≤ 2 ^ 17 ⌝ }
-        ensures value { λ r. ⌜ answered r (now (self .exit) .at) ≡ converted (λ ts. padded 16 blank-task (map task-table ts)) (each count (task-layout modes mode) .read (bits (now (self .entry) .bytes .now)) (now (self .entry) .at)) ⌝ }
-        ensures near { λ _. ⌜ now (self .exit) .at ≤ now (self .entry) .at + 2816 ⌝ }
-        ensures bytes { λ _. ⌜ now (self .exit) .bytes .now ≡ now (self .entry) .bytes .now ⌝ }
-    {
-        let mut tasks = [Task::BLANK; TASKS];
-        for task in 0..count {
-            tasks[task as usize] = self.task(modes, mode, task)?;
-        }
-        Ok(tasks)
+fn read_tasks(
+    bits: &mut BitReader<'_>,
+    modes: u8,
+    mode: u8,
+    count: u8,
+) -> Result<[Task; TASKS], Fault>
+    requires few { ⌜ modes ≤ 8 ⌝ }
+    requires room { ⌜ count ≤ 16 ⌝ }
+    ensures value { λ r. ⌜ answered r (now (bits .exit) .at) ≡ converted (λ ts. padded 16 blank-task (map task-table ts)) (each count (task-layout modes mode) .read (bits-of (now (bits .entry) .bytes .now)) (now (bits .entry) .at)) ⌝ }
+    ensures bytes { λ _. ⌜ now (bits .exit) .bytes .now ≡ now (bits .entry) .bytes .now ⌝ }
+{
+    let mut tasks = [Task::BLANK; TASKS];
+    for task in 0..count {
+        tasks[task as usize] = read_task(bits, modes, mode, task)?;
     }
+    Ok(tasks)
+}
 
-    fn mode(&mut self, modes: u8, mode: u8) -> Result<Mode, Fault>
-        requires few { ⌜ modes ≤ 8 ⌝ }
-        requires near { ⌜ now self .at ≤ 2 ^ 16 ⌝ }
-        ensures value { λ r. ⌜ answered r (now (self .exit) .at) ≡ converted mode-table (mode-layout modes mode .read (bits (now (self .entry) .bytes .now)) (now (self .entry) .at)) ⌝ }
-        ensures near { λ _. ⌜ now (self .exit) .at ≤ now (self .entry) .at + 2848 ⌝ }
-        ensures bytes { λ _. ⌜ now (self .exit) .bytes .now ≡ now (self .entry) .bytes .now ⌝ }
-    {
-        let rule = self.number(Field::Rule, mode, NONE, 0, MAX_RULE)?;
-        let last = self.number(Field::Tasks, mode, NONE, 0, LAST_TASK)?;
-        let count = last as u8 + 1;
-        let tasks = self.tasks(modes, mode, count)?;
-        Ok(Mode {
-            rule: rule as u8,
-            count,
-            tasks,
-        })
-    }
+fn read_mode(bits: &mut BitReader<'_>, modes: u8, mode: u8) -> Result<Mode, Fault>
+    requires few { ⌜ modes ≤ 8 ⌝ }
+    ensures value { λ r. ⌜ answered r (now (bits .exit) .at) ≡ converted mode-table (mode-layout modes mode .read (bits-of (now (bits .entry) .bytes .now)) (now (bits .entry) .at)) ⌝ }
+    ensures bytes { λ _. ⌜ now (bits .exit) .bytes .now ≡ now (bits .entry) .bytes .now ⌝ }
+{
+    let rule = bits.number(Field::Rule, mode, NONE, 0, MAX_RULE)?;
+    let last = bits.number(Field::Tasks, mode, NONE, 0, LAST_TASK)?;
+    let count = last as u8 + 1;
+    let tasks = read_tasks(bits, modes, mode, count)?;
+    Ok(Mode {
+        rule: rule as u8,
+        count,
+        tasks,
+    })
+}
 
-    fn modes(&mut self, count: u8) -> Result<[Mode; MODES], Fault>
-        requires few { ⌜ count ≤ 8 ⌝ }
-        requires near { ⌜ now self .at ≤ 2 ^ 15 ⌝ }
-        ensures value { λ r. ⌜ answered r (now (self .exit) .at) ≡ converted (λ ms. padded 8 blank-mode (map mode-table ms)) (each count (mode-layout count) .read (bits (now (self .entry) .bytes .now)) (now (self .entry) .at)) ⌝ }
-        ensures near { λ _. ⌜ now (self .exit) .at ≤ now (self .entry) .at + 22784 ⌝ }
-        ensures bytes { λ _. ⌜ now (self .exit) .bytes .now ≡ now (self .entry) .bytes .now ⌝ }
-    {
-        let mut modes = [Mode::BLANK; MODES];
-        for mode in 0..count {
-            modes[mode as usize] = self.mode(count, mode)?;
-        }
-        Ok(modes)
+fn read_modes(bits: &mut BitReader<'_>, count: u8) -> Result<[Mode; MODES], Fault>
+    requires few { ⌜ count ≤ 8 ⌝ }
+    ensures value { λ r. ⌜ answered r (now (bits .exit) .at) ≡ converted (λ ms. padded 8 blank-mode (map mode-table ms)) (each count (mode-layout count) .read (bits-of (now (bits .entry) .bytes .now)) (now (bits .entry) .at)) ⌝ }
+    ensures bytes { λ _. ⌜ now (bits .exit) .bytes .now ≡ now (bits .entry) .bytes .now ⌝ }
+{
+    let mut modes = [Mode::BLANK; MODES];
+    for mode in 0..count {
+        modes[mode as usize] = read_mode(bits, count, mode)?;
     }
+    Ok(modes)
+}
 
-    // A whole plan, without what may follow it.
-    pub(crate) fn plan(&mut self) -> Result<Plan, Fault>
-        requires near { ⌜ now self .at ≤ 2 ^ 10 ⌝ }
-        ensures value { λ r. ⌜ answered r (now (self .exit) .at) ≡ converted plan-table (plan-layout .read (bits (now (self .entry) .bytes .now)) (now (self .entry) .at)) ⌝ }
-        ensures near { λ _. ⌜ now (self .exit) .at ≤ now (self .entry) .at + 22832 ⌝ }
-        ensures bytes { λ _. ⌜ now (self .exit) .bytes .now ≡ now (self .entry) .bytes .now ⌝ }
-    {
-        let processors = self.number(Field::Processors, NONE, NONE, 0, LAST_PROCESSOR)?;
-        let last = self.number(Field::Modes, NONE, NONE, 0, LAST_MODE)?;
-        let count = last as u8 + 1;
-        let start = self.number(Field::Start, NONE, NONE, 0, last_mode(count))?;
-        let modes = self.modes(count)?;
-        Ok(Plan {
-            processors: processors as u8 + 1,
-            start: start as u8,
-            count,
-            modes,
-        })
-    }
+// A whole plan, without what may follow it.
+pub(crate) fn read_plan(bits: &mut BitReader<'_>) -> Result<Plan, Fault>
+    ensures value { λ r. ⌜ answered r (now (bits .exit) .at) ≡ converted plan-table (plan-layout .read (bits-of (now (bits .entry) .bytes .now)) (now (bits .entry) .at)) ⌝ }
+    ensures bytes { λ _. ⌜ now (bits .exit) .bytes .now ≡ now (bits .entry) .bytes .now ⌝ }
+{
+    let processors = bits.number(Field::Processors, NONE, NONE, 0, LAST_PROCESSOR)?;
+    let last = bits.number(Field::Modes, NONE, NONE, 0, LAST_MODE)?;
+    let count = last as u8 + 1;
+    let start = bits.number(Field::Start, NONE, NONE, 0, last_mode(count))?;
+    let modes = read_modes(bits, count)?;
+    Ok(Plan {
+        processors: processors as u8 + 1,
+        start: start as u8,
+        count,
+        modes,
+    })
 }

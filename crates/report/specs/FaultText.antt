@@ -6,7 +6,7 @@ use lib.Chars.{codes}
 use lib.Dec.{eqb}
 use lib.ListN.{getD}
 use Rattle.std.specs.Written.{decimal}
-use Rattle.plan.specs.Faults.{Told, none}
+use Rattle.fields.specs.Faults.{Told, none}
 use Rattle.report.specs.Line.{line}
 
 -- the refusals in words, from number 1 on

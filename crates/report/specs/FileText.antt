@@ -3,7 +3,7 @@ use mathlib.Core.List.{List}
 use Prim.Native.Nat.{ℕ}
 use Rattle.std.specs.declared.result.Result.{Result}
 use Rattle.std.specs.declared.result.Result.the-variants.{Ok, Err}
-use Rattle.plan.specs.Faults.{Told}
+use Rattle.fields.specs.Faults.{Told}
 use Rattle.plan.specs.Plan.{Plan}
 use Rattle.report.specs.FaultText.{fault-text}
 use Rattle.report.specs.PlanText.{plan-text}

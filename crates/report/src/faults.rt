@@ -2,12 +2,12 @@
 ghost use mathlib.Core.Path.{_≡_};
 ghost use Rattle.std.specs.Of.String.{string-bytes};
 ghost use Rattle.std.specs.Vec.{made};
-ghost use Rattle.plan.specs.Faults.{refusal-number, field-number, numbers};
+ghost use Rattle.fields.specs.Faults.{refusal-number, field-number, numbers};
 ghost use Rattle.report.specs.FaultText.{refusal-words, field-words, owner-text, refusal-line, field-text, fault-text};
-use plan::Fault;
-use plan::Field;
-use plan::NONE;
-use plan::Refusal;
+use fields::Fault;
+use fields::Field;
+use fields::NONE;
+use fields::Refusal;
 use std::alloc::AllocError;
 use std::alloc::Global;
 

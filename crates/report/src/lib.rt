@@ -2,7 +2,6 @@
 mod cells;
 mod faults;
 mod files;
-mod held;
 mod loads;
 mod plans;
 mod tables;

@@ -9,7 +9,7 @@ use crate::cells::enabling_cells;
 use crate::cells::number_cell;
 use crate::cells::old_mode_cells;
 use crate::cells::text_cell;
-use crate::held::first;
+use fields::first;
 use plan::MODES;
 use plan::Mode;
 use plan::Task;

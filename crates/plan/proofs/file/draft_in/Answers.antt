@@ -6,6 +6,7 @@ use Rattle.plan.specs.Held.{plan-of, plan-table}
 use Rattle.plan.specs.Law.{refused-as, placed, Drafted, Refused}
 use Rattle.plan.specs.Plan.{Plan, Within}
 use Rattle.plan.proofs.Accepts.{stopped-cases, plan-read, refusal-read, read-within, accepts, refuses}
+use Rattle.plan.proofs.Front.{front}
 use Rattle.plan.proofs.TableOf.{plan-back}
 use Rattle.plan.proofs.file.draft_in.Needs as need
 use Rattle.plan.proofs.file.draft_in.Needs.{In-Continue-plan}
@@ -24,8 +25,11 @@ pub returns-in-Break-plan : need.returns-in-Break-plan
 returns-in-Break-plan c =
     let bytes = c .args .bytes .now in
     let told = refusal-read (decode bytes) _ (c .in-Break-plan .ensures tt) in
-    stopped-cases (λ (d : Draft). Drafted bytes (d .plan)) (Refused bytes) (c .from-residual .result) (c .in-Break-plan .field-0 .0) (c .from-residual .ensures .1)
-    (ap refused-as told, λ old. ap (λ r. placed r old) told, λ plan. refuses bytes _ plan told)
+    record {
+      cases = stopped-cases (λ (d : Draft). Drafted bytes (d .plan)) (Refused bytes) (c .from-residual .result) (c .in-Break-plan .field-0 .0) (c .from-residual .ensures .1)
+          (ap refused-as told, λ old. ap (λ r. placed r old) told, λ plan. refuses bytes _ plan told);
+      front = front bytes;
+    }
 
 pub new-requires : need.new-requires
 new-requires c κs =
@@ -41,4 +45,7 @@ returns c =
     let at = need.at·returns c .In-Continue-plan in
     let p = read-plan at in
     let tables = c .new .ensures in
-    (ap refused-as (p .1), λ old. ap (λ r. placed r old) (p .1) ∙ sym (tables ∙ p .2), accepts (c .args .bytes .now) (p .0) _ (p .1) (ap plan-of tables ∙ holds at))
+    record {
+      cases = (ap refused-as (p .1), λ old. ap (λ r. placed r old) (p .1) ∙ sym (tables ∙ p .2), accepts (c .args .bytes .now) (p .0) _ (p .1) (ap plan-of tables ∙ holds at));
+      front = front (c .args .bytes .now);
+    }

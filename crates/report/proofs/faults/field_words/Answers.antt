@@ -2,8 +2,8 @@
 use mathlib.Core.List.{List}
 use mathlib.Core.Path.{ap, sym}
 use Prim.Native.Nat.{ℕ}
-use Rattle.plan.specs.declared.fault.Field.{Field}
-use Rattle.plan.specs.Faults.{field-number}
+use Rattle.fields.specs.declared.fault.Field.{Field}
+use Rattle.fields.specs.Faults.{field-number}
 use Rattle.report.specs.FaultText.{field-words}
 use Rattle.report.proofs.faults.field_words.Needs as need
 

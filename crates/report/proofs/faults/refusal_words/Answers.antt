@@ -2,8 +2,8 @@
 use mathlib.Core.List.{List}
 use mathlib.Core.Path.{ap, sym}
 use Prim.Native.Nat.{ℕ}
-use Rattle.plan.specs.declared.fault.Refusal.{Refusal}
-use Rattle.plan.specs.Faults.{refusal-number}
+use Rattle.fields.specs.declared.fault.Refusal.{Refusal}
+use Rattle.fields.specs.Faults.{refusal-number}
 use Rattle.report.specs.FaultText.{refusal-words}
 use Rattle.report.proofs.faults.refusal_words.Needs as need
 

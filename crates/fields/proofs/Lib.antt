@@ -1,0 +1,4 @@
+pub mod Numbers
+pub mod Binary
+pub mod Strays
+pub mod FieldReads

@@ -1,0 +1,5 @@
+pub mod Bits
+pub mod Padding
+pub mod Faults
+pub mod Layout
+pub mod Readers

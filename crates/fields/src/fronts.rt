@@ -1,0 +1,10 @@
+// The front of a table or of an input.
+ghost use mathlib.Core.Path.{_≡_};
+ghost use lib.ListN.{take};
+
+// The first `count` places, or all where there are fewer.
+pub fn first<T>(places: &[T], count: usize) -> &[T]
+    ensures { λ r. ⌜ now r ≡ take count (now (places .entry)) ⌝ }
+{
+    places.get(0..count).unwrap_or(places)
+}
