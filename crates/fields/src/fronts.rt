@@ -8,5 +8,9 @@ pub fn first<T>(places: &[T], count: usize) -> &[T]
     ensures value { λ r. ⌜ now r ≡ take count (now (places .entry)) ⌝ }
     ensures bound { λ r. ⌜ length (now r) ≤ count ⌝ }
 {
-    places.get(0..count).unwrap_or(places)
+    if places.len() < count {
+        places
+    } else {
+        &places[0..count]
+    }
 }
