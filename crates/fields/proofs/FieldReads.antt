@@ -1,8 +1,8 @@
 -- What a field reads: a number within its limits, or why not. Assumes nothing.
 use mathlib.Core.Bool.{true, false, _&&_}
 use mathlib.Core.List.{List}
-use mathlib.Core.Path.{_≡_, refl, sym, ap, _∙_}
-use Prim.Native.Nat.{ℕ, _+_, _<_, _≤_}
+use mathlib.Core.Path.{_≡_, ap, _∙_}
+use Prim.Native.Nat.{ℕ, _+_, _≤_}
 use lib.Dec.{leb, lit≤}
 use Rattle.std.proofs.shelf.Tests.{cond-true, cond-false, leb-true, and-parts}
 use Rattle.std.specs.declared.option.Option.the-variants.{Some, None}

@@ -1,7 +1,6 @@
 -- The search for a stray bit, step by step. Assumes nothing.
-use mathlib.Core.Bool.{true, false, _||_}
 use mathlib.Core.List.{List, _∷_}
-use mathlib.Core.Path.{_≡_, refl, sym, ap, _∙_}
+use mathlib.Core.Path.{_≡_, ap, _∙_}
 use Prim.Native.Nat.{ℕ, _+_, _<_, _≤_}
 use lib.Dec.{eqb, leb}
 use lib.ListN.{length, getD, drop}

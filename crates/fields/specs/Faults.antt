@@ -6,11 +6,13 @@ use Rattle.fields.specs.declared.fault.Field.{Field}
 use Rattle.fields.specs.declared.fault.Field.the-variants.{Processors, Modes, Start, Rule, Tasks, Cost, Deadline, Separation, Enabling, Padding}
 use Rattle.fields.specs.declared.fault.Fault.{Fault}
 
+-- the numbers of the refusals
 abbrev pub refusal-number : Refusal → ℕ
 refusal-number Ended = 1
 refusal-number OutOfRange = 2
 refusal-number Trailing = 3
 
+-- the numbers of the fields
 abbrev pub field-number : Field → ℕ
 field-number Processors = 1
 field-number Modes = 2
@@ -35,6 +37,7 @@ pub record Told : Type 0 where
   pub task : ℕ
   pub bit : ℕ
 
+-- the numbers of a refusal at a field of a mode and a task, told at a bit
 abbrev pub told : Refusal → Field → ℕ → ℕ → ℕ → Told
 told r f mode task bit = record { number = refusal-number r; field = field-number f; mode = mode; task = task; bit = bit }
 

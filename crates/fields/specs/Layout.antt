@@ -17,6 +17,7 @@ use Rattle.fields.specs.Faults.{Told, told}
 abbrev pub Reading : Type 0 → Type 0
 Reading A = Result (A × ℕ) Told
 
+-- how a value stands in bits
 pub record Layout (A : Type 0) : Type 0 where
   -- the bits of a value
   pub write : A → List ℕ
@@ -36,11 +37,12 @@ width Separation = 16
 width Enabling = 16
 width Padding = 0
 
--- a number in a field, which is to lie between a least and a greatest value
+-- what is read of a number that is to lie between a least and a greatest value
 abbrev pub judged : Field → ℕ → ℕ → ℕ → ℕ → ℕ → Option ℕ → Reading ℕ
 judged f mode task least most at None = Err (told Ended f mode task at)
 judged f mode task least most at (Some n) = cond (leb least n && leb n most) (Ok (n, at + width f)) (Err (told OutOfRange f mode task at))
 
+-- a number in a field of a mode and a task
 unfoldable pub field : Field → ℕ → ℕ → ℕ → ℕ → Layout ℕ
 field f mode task least most = record { write = binary (width f); read = λ bs at. judged f mode task least most at (taken (width f) bs at) }
 
@@ -60,14 +62,16 @@ part of first rest = record {
   read = λ bs at. followed (first .read bs at) (λ a next. rest a .read bs next);
 }
 
--- so many values, one after the other, where the layout of each may depend on its number
+-- what is written of values one after the other, from number i on
 unfoldable pub write-each : {A : Type 0} → (ℕ → Layout A) → ℕ → List A → List ℕ
 write-each item i [] = []
 write-each item i (x ∷ xs) = item i .write x ++ write-each item (i + 1) xs
 
+-- what is read of so many values, from number i on
 unfoldable pub read-each : {A : Type 0} → (ℕ → Layout A) → ℕ → ℕ → List ℕ → ℕ → Reading (List A)
 read-each item i zero bs at = Ok ([], at)
 read-each item i (suc n) bs at = followed (item i .read bs at) (λ x next. followed (read-each item (i + 1) n bs next) (λ xs end. Ok (x ∷ xs, end)))
 
+-- so many values, one after the other, where the layout of each may depend on its number
 abbrev pub each : {A : Type 0} → ℕ → (ℕ → Layout A) → Layout (List A)
 each n item = record { write = write-each item 0; read = read-each item 0 n }

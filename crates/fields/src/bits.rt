@@ -1,11 +1,10 @@
 // A reader of bits over borrowed bytes, the most significant bit of each byte first.
 ghost use mathlib.Core.Path.{_≡_};
-ghost use mathlib.Core.Bool.{cond};
-ghost use Prim.Native.Nat.{_+_, _*_, _^_, _<_, _≤_};
+ghost use Prim.Native.Nat.{_+_, _*_, _<_, _≤_};
 ghost use lib.Dec.{leb, eqb};
 ghost use lib.ListN.{length, getD, take, drop};
-ghost use Rattle.std.specs.Results.{isOk, okPart};
-ghost use Rattle.std.specs.Vec.{refused};
+ghost use Rattle.std.specs.Results.{okPart};
+ghost use Rattle.std.specs.Vec.{made, refused};
 ghost use Rattle.fields.specs.Bits.{bits, taken};
 ghost use Rattle.fields.specs.Padding.{stray, byte-end};
 use crate::fronts::first;
@@ -69,6 +68,7 @@ impl<'a> BitReader<'a> {
         (self.bytes[(at / 8) as usize] >> (7 - at % 8)) & 1
     }
 
+    // Whether the bit at `at` is 1.
     fn is_set(&self, at: u32) -> bool
         requires { ⌜ at < 8 * length (now self .bytes .now) ⌝ }
         ensures { λ r. ⌜ r ≡ eqb (getD (bits (now (self .entry) .bytes .now)) at 0) 1 ⌝ }
@@ -76,13 +76,12 @@ impl<'a> BitReader<'a> {
         self.bit(at) == 1
     }
 
-    // The number in the next `width` bits.
-    pub(crate) fn take(&mut self, width: u32) -> Result<u16, Short>
-        requires narrow { ⌜ width ≤ 16 ⌝ }
+    // The number in the next `width` bits, which the reader does not pass.
+    pub(crate) fn peek(&self, width: u32) -> Result<u16, Short>
+        requires { ⌜ width ≤ 16 ⌝ }
         ensures value { λ r. ⌜ okPart r ≡ taken width (bits (now (self .entry) .bytes .now)) (now (self .entry) .at) ⌝ }
         ensures refused { λ r. ⌜ refused r (λ e. e .bit ≡ now (self .entry) .at) ⌝ }
-        ensures place { λ r. ⌜ now (self .exit) .at ≡ cond (isOk r) (now (self .entry) .at + width) (now (self .entry) .at) ⌝ }
-        ensures bytes { λ _. ⌜ now (self .exit) .bytes .now ≡ now (self .entry) .bytes .now ⌝ }
+        ensures room { λ r. ⌜ made r (λ _. now (self .entry) .at + width ≤ 8 * length (now (self .entry) .bytes .now)) ⌝ }
     {
         let first = self.at;
         let end = first + width;
@@ -93,8 +92,16 @@ impl<'a> BitReader<'a> {
         for at in first..end {
             value = value * 2 + self.bit(at) as u16;
         }
-        self.at = end;
         Ok(value)
+    }
+
+    // Passes the next `width` bits.
+    pub(crate) fn advance(&mut self, width: u32)
+        requires { ⌜ now self .at + width ≤ 8 * length (now self .bytes .now) ⌝ }
+        ensures place { λ _. ⌜ now (self .exit) .at ≡ now (self .entry) .at + width ⌝ }
+        ensures bytes { λ _. ⌜ now (self .exit) .bytes .now ≡ now (self .entry) .bytes .now ⌝ }
+    {
+        self.at += width;
     }
 
     // The earliest bit from here on that is 1 or lies in a further byte.

@@ -51,6 +51,7 @@ pub struct Fault {
 }
 
 impl Refusal {
+    // The number by which it is told.
     pub fn number(self) -> u8
         ensures { λ r. ⌜ r ≡ refusal-number self ⌝ }
     {
@@ -63,6 +64,7 @@ impl Refusal {
 }
 
 impl Field {
+    // The number by which it is told.
     pub fn number(self) -> u8
         ensures { λ r. ⌜ r ≡ field-number self ⌝ }
     {

@@ -17,11 +17,10 @@ use Rattle.fields.specs.Padding.{stray, byte-end}
 use Rattle.plan.specs.Decode.{decode, closed, ended}
 use Rattle.plan.specs.File.{plan-layout}
 use Rattle.fields.specs.Faults.{Told, numbers}
-use Rattle.plan.specs.Held.{plan-of, plan-table}
+use Rattle.plan.specs.Held.{plan-table}
 use Rattle.plan.specs.Law.{numbered, tabled, Holds, Accepts-exactly}
 use Rattle.plan.specs.Plan.{Plan, Within}
 use Rattle.plan.proofs.Exactly.{exactly}
-use Rattle.plan.proofs.TableOf.{plan-back}
 
 no-case : {A : Type 0} → _≡_ {A = ℕ} 0 1 → A
 no-case z = let none : ⊥ = omega arith in absurd none

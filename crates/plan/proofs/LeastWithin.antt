@@ -3,8 +3,8 @@ use mathlib.Core.Path.{refl}
 use Prim.Native.Nat.{ℕ, zero, suc, _≤_, _<_}
 use native.Mathlib.Omega.{arith}
 use lib.Dec.{lit≤, lit<}
-use lib.ListN.{length, getD}
-use Rattle.plan.specs.Plan.{no-task, no-mode, mode-at, TaskWithin, ModeWithin, Within}
+use lib.ListN.{getD}
+use Rattle.plan.specs.Plan.{no-task, mode-at, TaskWithin, ModeWithin, Within}
 use Rattle.plan.specs.Builtin.{least}
 
 enabling-within : (i : ℕ) → getD (getD (mode-at least 0 .tasks) 0 no-task .enabling) i 0 ≤ 65535

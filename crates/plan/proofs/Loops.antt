@@ -3,7 +3,7 @@ use mathlib.Core.List.{List, [], _∷_, _++_, map, append-assoc, append-nil}
 use mathlib.Core.Path.{_≡_, refl, sym, ap, subst, _∙_}
 use Prim.Native.Nat.{ℕ, zero, suc, _+_, _-_, _<_, _≤_}
 use native.Mathlib.Omega.{arith}
-use lib.ListN.{length, set, getD, replicate, length-append}
+use lib.ListN.{length, set, replicate}
 use Rattle.std.proofs.shelf.Lists.{map-push, length-push, length-map, map-id, set-at}
 use Rattle.std.specs.Vec.{made}
 use Rattle.std.specs.declared.result.Result.the-variants.{Ok, Err}

@@ -4,7 +4,7 @@ use Prim.Native.Nat.{ℕ, _+_, _*_, _-_, _≤_, _<_}
 use native.Mathlib.Omega.{arith}
 use lib.Dec.{eqb, ltb}
 use lib.ListN.{length}
-use Rattle.std.proofs.shelf.Tests.{cond-both, eqb-true, eqb-false}
+use Rattle.std.proofs.shelf.Tests.{cond-both}
 use Rattle.std.proofs.shelf.Ways.{tells}
 use Rattle.fields.specs.declared.fault.Field.the-variants.{Processors, Modes, Start, Rule, Tasks, Cost, Deadline, Separation, Enabling}
 use Rattle.fields.specs.Faults.{none}

@@ -11,15 +11,16 @@ use Rattle.fields.specs.declared.fault.Field.the-variants.{Padding}
 use Rattle.fields.specs.Bits.{bits}
 use Rattle.fields.specs.Padding.{byte-end, stray}
 use Rattle.fields.specs.Faults.{Told, told, none}
-use Rattle.fields.specs.Layout.{Layout, Reading}
-use Rattle.plan.specs.Plan.{Plan, Within}
+use Rattle.fields.specs.Layout.{Reading}
+use Rattle.plan.specs.Plan.{Plan}
 use Rattle.plan.specs.File.{plan-layout}
 
--- a plan after which nothing but padding comes
+-- a plan, if no bit is astray after its fields
 abbrev pub ended : Plan → Option ℕ → Result Plan Told
 ended p None = Ok p
 ended p (Some at) = Err (told Trailing Padding none none at)
 
+-- a reading of the fields, with what comes after them
 abbrev pub closed : List ℕ → Reading Plan → Result Plan Told
 closed bs (Ok r) = ended (r .0) (stray (byte-end (r .1)) (drop (r .1) bs) (r .1))
 closed bs (Err t) = Err t

@@ -29,6 +29,7 @@ mode-layout n j =
     part (λ m. m .tasks) (each (last + 1) (task-layout n j)) (λ ts.
     whole (record { rule = r; tasks = ts }))))
 
+-- a plan
 unfoldable pub plan-layout : Layout Plan
 plan-layout =
     part (λ p. p .processors - 1) (field Processors none none 0 7) (λ m.

@@ -1,5 +1,5 @@
 -- The tables of a plan, and the plan that tables hold. Assumes nothing.
-use mathlib.Core.List.{List, [], _∷_, _++_, map}
+use mathlib.Core.List.{List, _++_, map}
 use Prim.Native.Nat.{ℕ, _-_}
 use lib.ListN.{length, take, replicate}
 use Rattle.plan.specs.declared.tables.Task.{Task as TaskTable}
@@ -11,6 +11,7 @@ use Rattle.plan.specs.Plan.{Task, Mode, Plan}
 abbrev pub padded : {A : Type 0} → ℕ → A → List A → List A
 padded n blank xs = xs ++ replicate (n - length xs) blank
 
+-- what unused places hold
 abbrev pub blank-task : TaskTable
 blank-task = record { cost = 0; deadline = 0; separation = 0; enabling = replicate 8 0 }
 

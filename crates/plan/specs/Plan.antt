@@ -4,6 +4,7 @@ use mathlib.Core.Path.{_≡_}
 use Prim.Native.Nat.{ℕ, _≤_, _<_}
 use lib.ListN.{length, getD}
 
+-- a task, with its times
 pub record Task : Type 0 where
   -- C, the worst-case execution time
   pub cost : ℕ
@@ -14,29 +15,29 @@ pub record Task : Type 0 where
   -- E, the enabling deadline for each old mode, and 0 for the task's own mode
   pub enabling : List ℕ
 
+-- a mode, with its tasks in their order
 pub record Mode : Type 0 where
   -- the code of the priority rule
   pub rule : ℕ
   pub tasks : List Task
 
+-- a plan, with its modes in their order
 pub record Plan : Type 0 where
   pub processors : ℕ
   -- the mode that a board begins in
   pub start : ℕ
   pub modes : List Mode
 
+-- what stands for a task or a mode that is not there
 abbrev pub no-task : Task
 no-task = record { cost = 0; deadline = 0; separation = 0; enabling = [] }
 
 abbrev pub no-mode : Mode
 no-mode = record { rule = 0; tasks = [] }
 
--- mode j of a plan, and task k of mode j
+-- mode j of a plan
 abbrev pub mode-at : Plan → ℕ → Mode
 mode-at p j = getD (p .modes) j no-mode
-
-abbrev pub task-at : Plan → ℕ → ℕ → Task
-task-at p j k = getD (mode-at p j .tasks) k no-task
 
 -- the limits of a task of mode j, in a plan of n modes
 abbrev pub TaskWithin : ℕ → ℕ → Task → Type 0

@@ -24,6 +24,7 @@ impl Draft {
         }
     }
 
+    // The tables of its plan.
     pub fn plan(&self) -> &Plan
         ensures { λ r. ⌜ now r ≡ now (self .entry) .plan ⌝ }
     {

@@ -2,7 +2,7 @@
 ghost use mathlib.Core.Path.{_≡_};
 ghost use mathlib.Core.List.{map};
 ghost use mathlib.Core.Bool.{not};
-ghost use Prim.Native.Nat.{_+_, _-_, _^_, _≤_};
+ghost use Prim.Native.Nat.{_-_, _≤_};
 ghost use lib.Dec.{eqb};
 ghost use Rattle.fields.specs.Bits.{bits as bits-of};
 ghost use Rattle.fields.specs.Layout.{each};
@@ -62,6 +62,7 @@ fn read_enabling_deadline(
     }
 }
 
+// All enabling deadlines of a task, by old mode.
 fn read_enabling(
     bits: &mut BitReader<'_>,
     modes: u8,
@@ -79,6 +80,7 @@ fn read_enabling(
     Ok(enabling)
 }
 
+// One task, each time at least the one before it.
 fn read_task(bits: &mut BitReader<'_>, modes: u8, mode: u8, task: u8) -> Result<Task, Fault>
     requires few { ⌜ modes ≤ 8 ⌝ }
     ensures value { λ r. ⌜ answered r (now (bits .exit) .at) ≡ converted task-table (task-layout modes mode task .read (bits-of (now (bits .entry) .bytes .now)) (now (bits .entry) .at)) ⌝ }
@@ -98,6 +100,7 @@ fn read_task(bits: &mut BitReader<'_>, modes: u8, mode: u8, task: u8) -> Result<
     Ok(read)
 }
 
+// So many tasks of a mode.
 fn read_tasks(
     bits: &mut BitReader<'_>,
     modes: u8,
@@ -116,6 +119,7 @@ fn read_tasks(
     Ok(tasks)
 }
 
+// One mode, in a plan of so many modes.
 fn read_mode(bits: &mut BitReader<'_>, modes: u8, mode: u8) -> Result<Mode, Fault>
     requires few { ⌜ modes ≤ 8 ⌝ }
     ensures value { λ r. ⌜ answered r (now (bits .exit) .at) ≡ converted mode-table (mode-layout modes mode .read (bits-of (now (bits .entry) .bytes .now)) (now (bits .entry) .at)) ⌝ }
@@ -132,6 +136,7 @@ fn read_mode(bits: &mut BitReader<'_>, modes: u8, mode: u8) -> Result<Mode, Faul
     })
 }
 
+// So many modes.
 fn read_modes(bits: &mut BitReader<'_>, count: u8) -> Result<[Mode; MODES], Fault>
     requires few { ⌜ count ≤ 8 ⌝ }
     ensures value { λ r. ⌜ answered r (now (bits .exit) .at) ≡ converted (λ ms. padded 8 blank-mode (map mode-table ms)) (each count (mode-layout count) .read (bits-of (now (bits .entry) .bytes .now)) (now (bits .entry) .at)) ⌝ }

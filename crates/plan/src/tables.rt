@@ -1,6 +1,5 @@
 // The tables of a plan, as a board holds them: fixed arrays with counts.
 // Places past a count hold zeros, so that equal plans are equal tables.
-
 ghost use mathlib.Core.Path.{_≡_};
 ghost use Rattle.plan.specs.Held.{plan-table};
 ghost use Rattle.plan.specs.Builtin.{least};
@@ -19,7 +18,7 @@ pub const MAX_TIME: u16 = 65535;
 
 pub const MAX_RULE: u16 = 2;
 
-// Times are in ticks. `enabling` has the enabling deadline for each old mode, and 0 for the task's own.
+// A task, with its times in ticks. `enabling` has the enabling deadline for each old mode, and 0 for the task's own.
 #[derive(Clone, Copy)]
 pub struct Task {
     pub cost: u16,
@@ -29,6 +28,7 @@ pub struct Task {
 }
 
 impl Task {
+    // What unused places hold.
     pub const BLANK: Task = Task {
         cost: 0,
         deadline: 0,
@@ -36,13 +36,14 @@ impl Task {
         enabling: [0; MODES],
     };
 
-    // No job may run beyond its deadline, and a deadline lies before the next release.
+    // D is at least C: a job can run to its end by its deadline.
     pub(crate) fn least_deadline(&self) -> u16
         ensures { λ r. ⌜ r ≡ now (self .entry) .cost ⌝ }
     {
         self.cost
     }
 
+    // T is at least D: a job is due before the next of its task.
     pub(crate) fn least_separation(&self) -> u16
         ensures { λ r. ⌜ r ≡ now (self .entry) .deadline ⌝ }
     {
@@ -50,6 +51,7 @@ impl Task {
     }
 }
 
+// A mode: the code of its priority rule, and its first `count` tasks.
 #[derive(Clone, Copy)]
 pub struct Mode {
     pub rule: u8,
@@ -58,6 +60,7 @@ pub struct Mode {
 }
 
 impl Mode {
+    // What unused places hold.
     pub const BLANK: Mode = Mode {
         rule: 0,
         count: 0,
@@ -65,6 +68,7 @@ impl Mode {
     };
 }
 
+// A plan: processors, the mode that a board begins in, and the first `count` modes.
 #[derive(Drop)]
 pub struct Plan {
     pub processors: u8,

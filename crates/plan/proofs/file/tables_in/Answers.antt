@@ -1,13 +1,12 @@
 use mathlib.Core.Path.{_≡_, sym, ap, _∙_}
 use lib.ListN.{drop}
-use Rattle.std.specs.declared.result.Result.the-variants.{Ok, Err}
+use Rattle.std.specs.declared.result.Result.the-variants.{Ok}
 use Rattle.fields.specs.Bits.{bits}
 use Rattle.fields.specs.Padding.{stray, byte-end}
 use Rattle.plan.specs.Decode.{decode, closed, ended}
 use Rattle.plan.specs.File.{plan-layout}
 use Rattle.plan.specs.Held.{plan-table}
 use Rattle.plan.specs.Law.{tabled}
-use Rattle.plan.specs.Plan.{Plan}
 use Rattle.plan.proofs.Exits.{Read, read-from, refused-from}
 use Rattle.plan.proofs.Accepts.{stopped-numbered, decoded}
 use Rattle.plan.proofs.Front.{seen, front-seen}

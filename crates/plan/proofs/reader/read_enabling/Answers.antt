@@ -3,7 +3,7 @@ use native.Mathlib.Omega.{arith}
 use Rattle.fields.specs.Bits.{bits}
 use Rattle.plan.specs.File.{enabling-layout}
 use Rattle.plan.proofs.Exits.{stopped, over}
-use Rattle.plan.proofs.Loops.{plain, sofar-none, sofar-more, sofar-fails, sofar-all}
+use Rattle.plan.proofs.Loops.{plain, sofar-more, sofar-fails, sofar-all}
 use Rattle.plan.proofs.reader.read_enabling.Needs as need
 
 pub returns-in-Break-enabling : need.returns-in-Break-enabling

@@ -1,5 +1,4 @@
 use mathlib.Core.Path.{_≡_}
-use Prim.Native.Nat.{_+_, _*_, _≤_}
 use Rattle.fields.specs.Bits.{bits}
 use Rattle.plan.specs.File.{enabling-layout}
 use Rattle.plan.proofs.Loops.{Sofar}

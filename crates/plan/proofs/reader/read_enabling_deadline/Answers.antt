@@ -1,6 +1,5 @@
 use mathlib.Core.Path.{refl, sym, ap, _∙_}
 use Prim.Native.Nat.{ℕ}
-use native.Mathlib.Omega.{arith}
 use Rattle.std.proofs.shelf.Tests.{cond-true, cond-false, not-true, not-false}
 use Rattle.fields.specs.Bits.{bits}
 use Rattle.fields.specs.Layout.{Layout, whole}

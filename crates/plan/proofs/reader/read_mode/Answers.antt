@@ -1,19 +1,16 @@
-use mathlib.Core.List.{List, map}
-use mathlib.Core.Path.{_≡_, refl, sym, ap, _∙_}
-use Prim.Native.Nat.{ℕ, _+_}
-use native.Mathlib.Omega.{arith}
+use mathlib.Core.List.{map}
+use mathlib.Core.Path.{_≡_, sym, _∙_}
+use Prim.Native.Nat.{_+_}
 use lib.ListN.{length}
 use Rattle.std.proofs.shelf.Results.{made-at-ok}
 use Rattle.std.specs.declared.result.Result.the-variants.{Ok}
 use Rattle.fields.specs.declared.fault.Field.the-variants.{Rule, Tasks}
-use Rattle.plan.specs.declared.tables.Task.{Task}
-use Rattle.plan.specs.declared.tables.Mode.{Mode}
 use Rattle.fields.specs.Bits.{bits}
 use Rattle.fields.specs.Faults.{none}
 use Rattle.plan.specs.Held.{padded, blank-task, task-table}
-use Rattle.fields.specs.Layout.{Reading, field, part, whole, each}
+use Rattle.fields.specs.Layout.{field, part, whole, each}
 use Rattle.plan.specs.File.{mode-layout, task-layout}
-use Rattle.plan.proofs.Exits.{Read, stopped, over, over-form, read-from, refused-from}
+use Rattle.plan.proofs.Exits.{stopped, over, over-form, read-from, refused-from}
 use Rattle.plan.proofs.Loops.{each-length}
 use Rattle.plan.proofs.reader.read_mode.Needs as need
 use Rattle.plan.proofs.reader.read_mode.Needs.{In-Continue-rule, In-Continue-last}

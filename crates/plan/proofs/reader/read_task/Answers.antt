@@ -1,7 +1,6 @@
 use mathlib.Core.List.{List}
 use mathlib.Core.Path.{_≡_, refl, sym, ap, _∙_}
 use Prim.Native.Nat.{ℕ}
-use native.Mathlib.Omega.{arith}
 use Rattle.std.specs.declared.result.Result.the-variants.{Ok}
 use Rattle.fields.specs.declared.fault.Field.the-variants.{Cost, Deadline, Separation}
 use Rattle.plan.specs.declared.tables.Task.{Task}

@@ -1,15 +1,14 @@
-use mathlib.Core.Path.{_≡_, refl, sym, ap, _∙_}
+use mathlib.Core.Path.{_≡_, sym, ap, _∙_}
 use Prim.Native.Nat.{ℕ, _+_, _-_, _*_, _^_, _<_, _≤_}
 use native.Mathlib.Omega.{arith}
-use lib.ListN.{length, take, drop}
+use lib.ListN.{length}
 use lib.Pow.{pow-mono}
-use Rattle.std.specs.shelf.Digits.{number}
 use Rattle.std.specs.declared.option.Option.the-variants.{Some}
 use Rattle.std.proofs.shelf.Tests.{leb-true, leb-false}
 use Rattle.fields.specs.Bits.{bits}
 use Rattle.fields.proofs.Numbers.{length-bits}
 use Rattle.fields.proofs.Binary.{bit-below, number-next, pow-next, taken-none, taken-some}
-use Rattle.fields.proofs.bits.BitReader.take.Needs as need
+use Rattle.fields.proofs.bits.BitReader.peek.Needs as need
 
 pub returns-then-not-has : need.returns-then-not-has
 returns-then-not-has c =
@@ -17,8 +16,7 @@ returns-then-not-has c =
     record {
       value = taken-none (c .args .width) (bits (c .args .self .now .bytes .now)) (c .args .self .now .at) (omega (arith, length-bits (c .args .self .now .bytes .now), past));
       refused = c .short .ensures;
-      place = refl;
-      bytes = refl;
+      room = tt;
     }
 
 -- one bit more keeps within one power of two more
@@ -50,6 +48,5 @@ returns c =
     record {
       value = ap (λ (n : ℕ). Some n) value ∙ taken-some (c .args .width) (bits bytes) (c .args .self .now .at) (omega (arith, length-bits bytes, room));
       refused = tt;
-      place = refl;
-      bytes = refl;
+      room = room;
     }
