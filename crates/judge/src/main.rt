@@ -1,6 +1,6 @@
 // Shows the plan file of the folder that it runs in, or why the file is refused.
-use report::file_text;
-use report::plan_bytes;
+use planfile::file_text;
+use planfile::plan_bytes;
 use std::error::AnyError;
 
 fn run(rt: &LibcRuntime) -> Result<(), AnyError> {

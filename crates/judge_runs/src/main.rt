@@ -1,6 +1,6 @@
 // Shows a row of plan files, good and damaged, each as the program `judge` does.
-use report::file_text;
-use report::plan_bytes;
+use planfile::file_text;
+use planfile::plan_bytes;
 use std::error::AnyError;
 
 // `missing.bin` is not there; `largest.bin` is a plan of the greatest length, 2,504 bytes.

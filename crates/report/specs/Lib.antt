@@ -1,4 +1,3 @@
 pub mod Line
 pub mod FaultText
 pub mod PlanText
-pub mod FileText

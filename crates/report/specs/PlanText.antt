@@ -24,8 +24,8 @@ abbrev pub old-mode : ℕ → List ℕ
 old-mode i = codes "E" ++ decimal i
 
 -- the head of the table of mode j, in a plan of n modes: an E for each mode but j
-abbrev pub table-head : ℕ → ℕ → List ℕ
-table-head n j = line (cell (codes "task") ∷ cell (codes "C") ∷ cell (codes "D") ∷ cell (codes "T") ∷ others old-mode j (counting 0 n) ∷ [])
+unfoldable pub table-head : ℕ → ℕ → List ℕ
+table-head n j = line (codes "  task     C     D     T" ∷ others old-mode j (counting 0 n) ∷ [])
 
 -- the row of task k of mode j: its number, C, D, T, and E for each mode but j
 abbrev pub task-row : ℕ → ℕ → Task → List ℕ

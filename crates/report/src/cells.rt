@@ -12,7 +12,7 @@ use std::alloc::Global;
 const CELL: usize = 6;
 
 // A text, right-aligned in its cell.
-pub fn text_cell(heap: Global, text: &str) -> Result<String, AllocError>
+fn text_cell(heap: Global, text: &str) -> Result<String, AllocError>
     ensures { λ r. ⌜ made r (λ s. string-bytes s ≡ cell (now (text .entry))) ⌝ }
 {
     let spaces = " ".repeat(heap, CELL.saturating_sub(text.len()))?;

@@ -8,7 +8,6 @@ ghost use Rattle.report.specs.PlanText.{table-head, task-row, each, table};
 use crate::cells::enabling_cells;
 use crate::cells::number_cell;
 use crate::cells::old_mode_cells;
-use crate::cells::text_cell;
 use fields::first;
 use plan::MODES;
 use plan::Mode;
@@ -20,12 +19,8 @@ use std::alloc::Global;
 fn table_head(heap: Global, own: usize, modes: usize) -> Result<String, AllocError>
     ensures { λ r. ⌜ made r (λ s. string-bytes s ≡ table-head modes own) ⌝ }
 {
-    let task = text_cell(heap, "task")?;
-    let cost = text_cell(heap, "C")?;
-    let deadline = text_cell(heap, "D")?;
-    let separation = text_cell(heap, "T")?;
     let enabling = old_mode_cells(heap, own, modes)?;
-    format!(heap, "{task}{cost}{deadline}{separation}{enabling}\n")
+    format!(heap, "  task     C     D     T{enabling}\n")
 }
 
 // The row of one task: its number, C, D, T, and its enabling deadlines.

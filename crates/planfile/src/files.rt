@@ -3,11 +3,11 @@ ghost use mathlib.Core.Path.{_≡_};
 ghost use Rattle.std.specs.Of.String.{string-bytes};
 ghost use Rattle.std.specs.Vec.{made};
 ghost use Rattle.plan.specs.Decode.{decode};
-ghost use Rattle.report.specs.FileText.{file-text};
-use crate::faults::fault_text;
-use crate::plans::draft_text;
+ghost use Rattle.planfile.specs.FileText.{file-text};
 use plan::Draft;
 use plan::read;
+use report::draft_text;
+use report::fault_text;
 use std::alloc::AllocError;
 use std::alloc::Global;
 

@@ -2,8 +2,8 @@
 use mathlib.Core.Path.{refl, sym, ap, _∙_}
 use Rattle.std.proofs.shelf.Results.{made-weaker}
 use Rattle.plan.proofs.Exactly.{exactly}
-use Rattle.report.specs.FileText.{file-text}
-use Rattle.report.proofs.files.file_text.Needs as need
+use Rattle.planfile.specs.FileText.{file-text}
+use Rattle.planfile.proofs.files.file_text.Needs as need
 
 pub returns-in-Ok : need.returns-in-Ok
 returns-in-Ok c =

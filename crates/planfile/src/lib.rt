@@ -1,0 +1,7 @@
+// Plan files for programs: the bytes of one, and the text that a person reads of it.
+mod files;
+mod loads;
+
+pub use files::file_text;
+pub use loads::MOST_BYTES;
+pub use loads::plan_bytes;
