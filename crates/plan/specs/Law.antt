@@ -14,6 +14,7 @@ use Rattle.fields.specs.Bits.{bits}
 use Rattle.fields.specs.Faults.{Told, numbers}
 use Rattle.plan.specs.Held.{plan-of, plan-table}
 use Rattle.plan.specs.Plan.{Plan, Within}
+use Rattle.plan.specs.Sizes.{deciding-bytes}
 use Rattle.plan.specs.Decode.{decode, laid}
 
 -- what an answer tells: nothing where it accepts
@@ -50,7 +51,7 @@ Accepts-exactly bytes accepted plan = (accepted ≡ true → Holds bytes plan) �
 
 -- the first 2,505 bytes of a file tell as much as the whole
 abbrev pub Front-tells : List ℕ → Type 0
-Front-tells bytes = decode (take 2505 bytes) ≡ decode bytes
+Front-tells bytes = decode (take deciding-bytes bytes) ≡ decode bytes
 
 -- tables of the plan that a file is decoded as, and a fault that the decoding tells
 abbrev pub Drafted : List ℕ → PlanTable → Type 0

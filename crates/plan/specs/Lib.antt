@@ -1,3 +1,4 @@
+pub mod Sizes
 pub mod Plan
 pub mod File
 pub mod Decode

@@ -3,6 +3,7 @@ use mathlib.Core.List.{List, []}
 use mathlib.Core.Path.{_≡_}
 use Prim.Native.Nat.{ℕ, _≤_, _<_}
 use lib.ListN.{length, getD}
+use Rattle.plan.specs.Sizes.{most-processors, most-modes, most-tasks, greatest-cost, greatest-time, greatest-rule}
 
 -- a task, with its times
 pub record Task : Type 0 where
@@ -41,12 +42,12 @@ mode-at p j = getD (p .modes) j no-mode
 
 -- the limits of a task of mode j, in a plan of n modes
 abbrev pub TaskWithin : ℕ → ℕ → Task → Type 0
-TaskWithin n j t = (1 ≤ t .cost) × (t .cost ≤ 4095) × (t .cost ≤ t .deadline) × (t .deadline ≤ t .separation) × (t .separation ≤ 65535) × (length (t .enabling) ≡ n) × (getD (t .enabling) j 0 ≡ 0) × ((i : ℕ) → getD (t .enabling) i 0 ≤ 65535)
+TaskWithin n j t = (1 ≤ t .cost) × (t .cost ≤ greatest-cost) × (t .cost ≤ t .deadline) × (t .deadline ≤ t .separation) × (t .separation ≤ greatest-time) × (length (t .enabling) ≡ n) × (getD (t .enabling) j 0 ≡ 0) × ((i : ℕ) → getD (t .enabling) i 0 ≤ greatest-time)
 
 -- the limits of mode j, in a plan of n modes
 abbrev pub ModeWithin : ℕ → ℕ → Mode → Type 0
-ModeWithin n j m = (m .rule ≤ 2) × (1 ≤ length (m .tasks)) × (length (m .tasks) ≤ 16) × ((k : ℕ) → k < length (m .tasks) → TaskWithin n j (getD (m .tasks) k no-task))
+ModeWithin n j m = (m .rule ≤ greatest-rule) × (1 ≤ length (m .tasks)) × (length (m .tasks) ≤ most-tasks) × ((k : ℕ) → k < length (m .tasks) → TaskWithin n j (getD (m .tasks) k no-task))
 
 -- the limits of a plan
 abbrev pub Within : Plan → Type 0
-Within p = (1 ≤ p .processors) × (p .processors ≤ 8) × (1 ≤ length (p .modes)) × (length (p .modes) ≤ 8) × (p .start < length (p .modes)) × ((j : ℕ) → j < length (p .modes) → ModeWithin (length (p .modes)) j (mode-at p j))
+Within p = (1 ≤ p .processors) × (p .processors ≤ most-processors) × (1 ≤ length (p .modes)) × (length (p .modes) ≤ most-modes) × (p .start < length (p .modes)) × ((j : ℕ) → j < length (p .modes) → ModeWithin (length (p .modes)) j (mode-at p j))

@@ -8,6 +8,7 @@ ghost use Rattle.fields.specs.Bits.{bits as bits-of};
 ghost use Rattle.fields.specs.Layout.{each};
 ghost use Rattle.plan.specs.File.{enabling-layout, task-layout, mode-layout, plan-layout};
 ghost use Rattle.plan.specs.Held.{padded, blank-task, blank-mode, task-table, mode-table, plan-table};
+ghost use Rattle.plan.specs.Sizes.{most-modes, most-tasks};
 ghost use Rattle.fields.specs.Readers.{answered, converted};
 use crate::tables::MAX_COST;
 use crate::tables::MAX_RULE;
@@ -69,8 +70,8 @@ fn read_enabling(
     mode: u8,
     task: u8,
 ) -> Result<[u16; MODES], Fault>
-    requires few { ⌜ modes ≤ 8 ⌝ }
-    ensures value { λ r. ⌜ answered r (now (bits .exit) .at) ≡ converted (padded 8 0) (each modes (enabling-layout mode task) .read (bits-of (now (bits .entry) .bytes .now)) (now (bits .entry) .at)) ⌝ }
+    requires few { ⌜ modes ≤ most-modes ⌝ }
+    ensures value { λ r. ⌜ answered r (now (bits .exit) .at) ≡ converted (padded most-modes 0) (each modes (enabling-layout mode task) .read (bits-of (now (bits .entry) .bytes .now)) (now (bits .entry) .at)) ⌝ }
     ensures bytes { λ _. ⌜ now (bits .exit) .bytes .now ≡ now (bits .entry) .bytes .now ⌝ }
 {
     let mut enabling = [0; MODES];
@@ -82,7 +83,7 @@ fn read_enabling(
 
 // One task, each time at least the one before it.
 fn read_task(bits: &mut BitReader<'_>, modes: u8, mode: u8, task: u8) -> Result<Task, Fault>
-    requires few { ⌜ modes ≤ 8 ⌝ }
+    requires few { ⌜ modes ≤ most-modes ⌝ }
     ensures value { λ r. ⌜ answered r (now (bits .exit) .at) ≡ converted task-table (task-layout modes mode task .read (bits-of (now (bits .entry) .bytes .now)) (now (bits .entry) .at)) ⌝ }
     ensures bytes { λ _. ⌜ now (bits .exit) .bytes .now ≡ now (bits .entry) .bytes .now ⌝ }
 {
@@ -107,9 +108,9 @@ fn read_tasks(
     mode: u8,
     count: u8,
 ) -> Result<[Task; TASKS], Fault>
-    requires few { ⌜ modes ≤ 8 ⌝ }
-    requires room { ⌜ count ≤ 16 ⌝ }
-    ensures value { λ r. ⌜ answered r (now (bits .exit) .at) ≡ converted (λ ts. padded 16 blank-task (map task-table ts)) (each count (task-layout modes mode) .read (bits-of (now (bits .entry) .bytes .now)) (now (bits .entry) .at)) ⌝ }
+    requires few { ⌜ modes ≤ most-modes ⌝ }
+    requires room { ⌜ count ≤ most-tasks ⌝ }
+    ensures value { λ r. ⌜ answered r (now (bits .exit) .at) ≡ converted (λ ts. padded most-tasks blank-task (map task-table ts)) (each count (task-layout modes mode) .read (bits-of (now (bits .entry) .bytes .now)) (now (bits .entry) .at)) ⌝ }
     ensures bytes { λ _. ⌜ now (bits .exit) .bytes .now ≡ now (bits .entry) .bytes .now ⌝ }
 {
     let mut tasks = [Task::BLANK; TASKS];
@@ -121,7 +122,7 @@ fn read_tasks(
 
 // One mode, in a plan of so many modes.
 fn read_mode(bits: &mut BitReader<'_>, modes: u8, mode: u8) -> Result<Mode, Fault>
-    requires few { ⌜ modes ≤ 8 ⌝ }
+    requires few { ⌜ modes ≤ most-modes ⌝ }
     ensures value { λ r. ⌜ answered r (now (bits .exit) .at) ≡ converted mode-table (mode-layout modes mode .read (bits-of (now (bits .entry) .bytes .now)) (now (bits .entry) .at)) ⌝ }
     ensures bytes { λ _. ⌜ now (bits .exit) .bytes .now ≡ now (bits .entry) .bytes .now ⌝ }
 {
@@ -138,8 +139,8 @@ fn read_mode(bits: &mut BitReader<'_>, modes: u8, mode: u8) -> Result<Mode, Faul
 
 // So many modes.
 fn read_modes(bits: &mut BitReader<'_>, count: u8) -> Result<[Mode; MODES], Fault>
-    requires few { ⌜ count ≤ 8 ⌝ }
-    ensures value { λ r. ⌜ answered r (now (bits .exit) .at) ≡ converted (λ ms. padded 8 blank-mode (map mode-table ms)) (each count (mode-layout count) .read (bits-of (now (bits .entry) .bytes .now)) (now (bits .entry) .at)) ⌝ }
+    requires few { ⌜ count ≤ most-modes ⌝ }
+    ensures value { λ r. ⌜ answered r (now (bits .exit) .at) ≡ converted (λ ms. padded most-modes blank-mode (map mode-table ms)) (each count (mode-layout count) .read (bits-of (now (bits .entry) .bytes .now)) (now (bits .entry) .at)) ⌝ }
     ensures bytes { λ _. ⌜ now (bits .exit) .bytes .now ≡ now (bits .entry) .bytes .now ⌝ }
 {
     let mut modes = [Mode::BLANK; MODES];

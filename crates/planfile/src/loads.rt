@@ -2,6 +2,7 @@
 ghost use Prim.Native.Nat.{_≤_};
 ghost use Rattle.std.specs.Of.Vec.{vec-len};
 ghost use Rattle.std.specs.Vec.{made};
+ghost use Rattle.plan.specs.Sizes.{deciding-bytes};
 use std::fs;
 use std::io;
 use std::io::ErrorKind;
@@ -12,7 +13,7 @@ pub const MOST_BYTES: usize = 2505;
 
 // The first bytes of a file, `MOST_BYTES` of them at most, and none where there is no such file.
 pub fn plan_bytes(rt: &LibcRuntime, path: &str) -> io::Result<Vec<u8>>
-    ensures { λ r. ⌜ made r (λ bytes. vec-len bytes ≤ 2505) ⌝ }
+    ensures { λ r. ⌜ made r (λ bytes. vec-len bytes ≤ deciding-bytes) ⌝ }
 {
     let mut bytes = Vec::new(rt.alloc());
     match fs::open(rt, path) {
