@@ -3,28 +3,15 @@ use mathlib.Core.Bool.{true, false, _&&_}
 use mathlib.Core.List.{List}
 use mathlib.Core.Path.{_≡_, ap, _∙_}
 use Prim.Native.Nat.{ℕ, _+_, _≤_}
-use lib.Dec.{leb, lit≤}
+use lib.Dec.{leb}
 use Rattle.std.proofs.shelf.Tests.{cond-true, cond-false, leb-true, and-parts}
 use Rattle.std.specs.declared.option.Option.the-variants.{Some, None}
 use Rattle.std.specs.declared.result.Result.the-variants.{Ok, Err}
 use Rattle.fields.specs.declared.fault.Refusal.the-variants.{Ended, OutOfRange}
 use Rattle.fields.specs.declared.fault.Field.{Field}
-use Rattle.fields.specs.declared.fault.Field.the-variants.{Processors, Modes, Start, Rule, Tasks, Cost, Deadline, Separation, Enabling, Padding}
 use Rattle.fields.specs.Bits.{taken}
 use Rattle.fields.specs.Faults.{told}
 use Rattle.fields.specs.Layout.{field, width, judged}
-
-pub narrow : (f : Field) → width f ≤ 16
-narrow Processors = lit≤ tt
-narrow Modes = lit≤ tt
-narrow Start = lit≤ tt
-narrow Rule = lit≤ tt
-narrow Tasks = lit≤ tt
-narrow Cost = lit≤ tt
-narrow Deadline = lit≤ tt
-narrow Separation = lit≤ tt
-narrow Enabling = lit≤ tt
-narrow Padding = lit≤ tt
 
 module _ (f : Field) (mode task least most : ℕ) (bs : List ℕ) (at : ℕ) where
   pub reads-none : taken (width f) bs at ≡ None → field f mode task least most .read bs at ≡ Err (told Ended f mode task at)

@@ -3,7 +3,6 @@ use mathlib.Core.Bool.{true, false}
 use mathlib.Core.List.{List}
 use mathlib.Core.Path.{_≡_, refl, sym, ap, subst, _∙_}
 use Prim.Native.Nat.{ℕ}
-use native.Mathlib.Omega.{arith}
 use lib.ListN.{drop}
 use Rattle.std.proofs.shelf.Tests.{false≢true}
 use Rattle.std.specs.Results.{ErrBy, Cases}
@@ -21,9 +20,7 @@ use Rattle.plan.specs.Held.{plan-table}
 use Rattle.plan.specs.Law.{numbered, tabled, Holds, Accepts-exactly}
 use Rattle.plan.specs.Plan.{Plan, Within}
 use Rattle.plan.proofs.Exactly.{exactly}
-
-no-case : {A : Type 0} → _≡_ {A = ℕ} 0 1 → A
-no-case z = let none : ⊥ = omega arith in absurd none
+use Rattle.plan.proofs.Exits.{no-case}
 
 -- the exit of a `?`
 pub stopped-numbered : {A : Type 0} (r : Result A Fault) (f : Fault) → ErrBy r (λ g. g ≡ f) → numbered r ≡ Err (numbers f)

@@ -13,6 +13,10 @@ use Rattle.fields.specs.declared.fault.Field.{Field}
 use Rattle.fields.specs.Layout.{Layout, Reading, field}
 use Rattle.fields.specs.Readers.{answered, converted}
 
+-- an equation of two constructors rules its case out
+pub no-case : {A : Type 0} → _≡_ {A = ℕ} 0 1 → A
+no-case z = let none : ⊥ = omega arith in absurd none
+
 -- the exit of a `?`
 pub stopped : {A : Type 0} (r : Result A Fault) (f : Fault) (at : ℕ) → ErrBy r (λ g. g ≡ f) → answered r at ≡ Err (numbers f)
 stopped (Ok a) f at h = absurd h
@@ -28,10 +32,10 @@ pub read-from : {A B : Type 0} (form : A → B) (r : Reading A) (b : B) (at : �
 read-from {A} {B} form (Ok p) b at e =
     let same : _≡_ {A = B × ℕ} (b, at) (form (p .0), p .1) = cc in
     record { value = p .0; same = ap (λ x. x .0) same; reads = ap (λ n. Ok (p .0, n)) (sym (ap (λ x. x .1) same)) }
-read-from form (Err t) b at e = let z : _≡_ {A = ℕ} 0 1 = cc in let no-answer : ⊥ = omega arith in absurd no-answer
+read-from form (Err t) b at e = no-case (cc)
 
 pub refused-from : {A B : Type 0} (form : A → B) (r : Reading A) (t : Told) → Err t ≡ converted form r → r ≡ Err t
-refused-from form (Ok p) t e = let z : _≡_ {A = ℕ} 0 1 = cc in let no-answer : ⊥ = omega arith in absurd no-answer
+refused-from form (Ok p) t e = no-case (cc)
 refused-from form (Err u) t e = let same : t ≡ u = cc in ap Err (sym same)
 
 -- a reading of the same bytes

@@ -22,10 +22,6 @@ prefixed-more : {A : Type 0} (xs : List A) (x : A) (r : Reading (List A)) → pr
 prefixed-more xs x (Ok r) = ap (λ ys. Ok (ys, r .1)) (sym (append-assoc xs (x ∷ []) (r .0)))
 prefixed-more xs x (Err t) = refl
 
-prefixed-none : {A : Type 0} (r : Reading (List A)) → r ≡ prefixed [] r
-prefixed-none (Ok r) = refl
-prefixed-none (Err t) = refl
-
 -- one value more in a table
 padded-more : {X : Type 0} (size : ℕ) (blank : X) (xs : List X) (x : X) → length xs < size → set (padded size blank xs) (length xs) x ≡ padded size blank (xs ++ x ∷ [])
 padded-more size blank xs x room =
@@ -45,14 +41,6 @@ module _ {A X : Type 0} (form : A → X) (size : ℕ) (blank : X) (item : ℕ �
   -- the table of some values
   abbrev table-of : List A → List X
   table-of xs = padded size blank (map form xs)
-
-  pub sofar-none : Sofar form size blank item n bs start 0 (replicate size blank) start
-  sofar-none = record {
-    items = [];
-    count = refl;
-    held = ap (λ k. replicate k blank) (omega arith);
-    reads = prefixed-none _ ∙ ap (λ k. prefixed [] (read-each item 0 k bs start)) (omega arith);
-  }
 
   -- a turn unrolled
   turn : (i at : ℕ) → i < n → read-each item i (n - i) bs at ≡ followed (item i .read bs at) (λ x next. followed (read-each item (i + 1) (n - (i + 1)) bs next) (λ xs end. Ok (x ∷ xs, end)))

@@ -3,5 +3,5 @@ mod files;
 mod loads;
 
 pub use files::file_text;
-pub use loads::MOST_BYTES;
+pub use loads::DECIDING_BYTES;
 pub use loads::plan_bytes;

@@ -9,16 +9,16 @@ use std::io::ErrorKind;
 use std::io::Read;
 
 // One byte more than the longest plan has, which is enough to tell that a file goes on after its plan.
-pub const MOST_BYTES: usize = 2505;
+pub const DECIDING_BYTES: usize = 2505;
 
-// The first bytes of a file, `MOST_BYTES` of them at most, and none where there is no such file.
+// The first bytes of a file, `DECIDING_BYTES` of them at most, and none where there is no such file.
 pub fn plan_bytes(rt: &LibcRuntime, path: &str) -> io::Result<Vec<u8>>
     ensures { λ r. ⌜ made r (λ bytes. vec-len bytes ≤ deciding-bytes) ⌝ }
 {
     let mut bytes = Vec::new(rt.alloc());
     match fs::open(rt, path) {
         Ok(file) => {
-            file.take(MOST_BYTES as u64).read_to_end(&mut bytes)?;
+            file.take(DECIDING_BYTES as u64).read_to_end(&mut bytes)?;
         }
         Err(error) => {
             if error.kind() != ErrorKind::NotFound {
@@ -27,6 +27,6 @@ pub fn plan_bytes(rt: &LibcRuntime, path: &str) -> io::Result<Vec<u8>>
         }
     }
     // No contract tells how much `take` lets through, so the limit is set once more where it can be proved.
-    bytes.truncate(MOST_BYTES);
+    bytes.truncate(DECIDING_BYTES);
     Ok(bytes)
 }

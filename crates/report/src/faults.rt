@@ -11,6 +11,7 @@ use fields::Refusal;
 use std::alloc::AllocError;
 use std::alloc::Global;
 
+// What is wrong, in words.
 fn refusal_words(refusal: Refusal) -> &'static str
     ensures { λ r. ⌜ now r ≡ refusal-words (refusal-number refusal) ⌝ }
 {
@@ -21,6 +22,7 @@ fn refusal_words(refusal: Refusal) -> &'static str
     }
 }
 
+// A field, in words.
 fn field_words(field: Field) -> &'static str
     ensures { λ r. ⌜ now r ≡ field-words (field-number field) ⌝ }
 {
