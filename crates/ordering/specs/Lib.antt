@@ -1,0 +1,3 @@
+pub mod Strict
+pub mod Keys
+pub mod First

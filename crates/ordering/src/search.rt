@@ -1,0 +1,21 @@
+// The first of several values, under any strict total order.
+ghost use mathlib.Core.Path.{_≡_};
+ghost use Rattle.ordering.specs.First.{first, GoesFirst};
+use crate::order::Order;
+
+// The place of the value that goes before all others, and none where there are no values. Of equal values it is the lowest place.
+pub fn first_in_order<T, O: Order<T>>(order: &O, values: &[T]) -> Option<usize>
+    ensures place { λ r. ⌜ r ≡ first (before (now (order .entry))) (now (values .entry)) ⌝ }
+    ensures law { λ r. ⌜ GoesFirst (before (now (order .entry))) (now (values .entry)) r ⌝ }
+{
+    if values.is_empty() {
+        return None;
+    }
+    let mut best = 0;
+    for place in 1..values.len() {
+        if order.goes_before(&values[place], &values[best]) {
+            best = place;
+        }
+    }
+    Some(best)
+}
