@@ -11,6 +11,7 @@ use Rattle.std.specs.Slices.{Ranks}
 use Rattle.std.specs.shelf.Bests.{FirstBest}
 use Rattle.std.specs.shelf.Lists.{leading}
 use Rattle.std.specs.declared.option.Option.the-variants.{Some, None}
+use Rattle.std.proofs.shelf.Bests.{first-best-takes, first-best-keeps}
 use Rattle.std.proofs.shelf.Lists.{getD-default}
 use Rattle.std.proofs.shelf.Tests.{both-ways, lt-ltb, le-ltb}
 use Rattle.ordering.specs.Strict.{Strict}
@@ -28,13 +29,27 @@ leading-at p (x ∷ xs) (suc i) d within front here =
 
 module _ {A : Type 0} {before : A → A → Bool} (law : Strict before) where
   -- an order ranks: what neither precedes nor is preceded by the same does not differ
-  pub ranks : Ranks before
+  ranks : Ranks before
   ranks = record { one-way = law .one-way; chain = λ x y z p q. not-before x y z p q (before x z) refl (before y x) refl }
     where
       not-before : (x y z : A) → before x y ≡ false → before y z ≡ false → (b : Bool) → before x z ≡ b → (c : Bool) → before y x ≡ c → b ≡ false
       not-before x y z p q false e c f = refl
       not-before x y z p q true e true f = absurd (both-ways (before y z) q (law .transitive y x z f e))
       not-before x y z p q true e false f = let same = law .connected x y p f in absurd (both-ways (before y z) q (ap (λ w. before w z) (sym same) ∙ e))
+
+  -- a turn of a search: the value at place i is the best of the first i + 1, or the best so far stays
+  module _ (xs : List A) (i best : ℕ) (found : FirstBest before xs i best) (more : i < length xs) where
+    pub best-takes : ((d : A) → true ≡ before (getD xs i d) (getD xs best d)) → FirstBest before xs (i + 1) i
+    best-takes goes = (omega arith, λ k d. at d .1 k d, λ k d. at d .2 k d)
+      where
+        at : (d : A) → FirstBest before xs (i + 1) i
+        at d = first-best-takes ranks xs i best (getD xs i d) (getD xs best d) found more (getD-default xs i d _ more) (getD-default xs best d _ (omega (arith, found .0))) (sym (goes d))
+
+    pub best-keeps : ((d : A) → false ≡ before (getD xs i d) (getD xs best d)) → FirstBest before xs (i + 1) best
+    best-keeps stays = (omega (arith, found .0), λ k d. at d .1 k d, found .2)
+      where
+        at : (d : A) → FirstBest before xs (i + 1) best
+        at d = first-best-keeps ranks xs i best (getD xs i d) (getD xs best d) found more (getD-default xs i d _ more) (getD-default xs best d _ (omega (arith, found .0))) (sym (stays d))
 
   module _ (xs : List A) (best : ℕ) (found : FirstBest before xs (length xs) best) where
     pub leads-at : Leads before xs best

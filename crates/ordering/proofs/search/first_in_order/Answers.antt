@@ -4,13 +4,12 @@ use mathlib.Core.Path.{_≡_, sym, subst}
 use Prim.Native.Nat.{_+_, _≤_}
 use lib.ListN.{length}
 use Rattle.std.specs.shelf.Bests.{FirstBest}
-use Rattle.std.proofs.shelf.Bests.{first-best-keeps, first-best-takes}
 use Rattle.std.proofs.shelf.Lists.{nil-from-length}
 use Rattle.std.proofs.shelf.Tests.{eqb-true}
 use Rattle.std.proofs.shelf.Ways.{tells}
-use Rattle.ordering.proofs.Firsts.{ranks, first-at, first-none, leads-at}
+use Rattle.ordering.proofs.Firsts.{best-takes, best-keeps, first-at, first-none, leads-at}
 use Rattle.ordering.proofs.search.first_in_order.Needs as need
-use Rattle.ordering.proofs.search.first_in_order.Needs.{then-goes-before, else-goes-before}
+use Rattle.ordering.proofs.search.first_in_order.Needs.{then-goes-before-at, else-goes-before-at}
 
 pub returns-then-is-empty : need.returns-then-is-empty
 returns-then-is-empty g c =
@@ -19,14 +18,12 @@ returns-then-is-empty g c =
 
 pub loop-place-again : need.loop-place-again
 loop-place-again g c =
-    let order = ranks (g .O·Order·met .strict (c .args .order .now)) in
+    let strict = g .O·Order·met .strict (c .args .order .now) in
     let values = c .args .values .now in
-    let place = c .loop-place .place in
-    let best = c .loop-place .best in
-    let So-far = FirstBest (g .O·Order .before (c .args .order .now)) values (place + 1) in
-    elim (c .if-goes-before .came) [
-      | then-goes-before w ↦ subst So-far (sym (w .best-is)) (first-best-takes order values place best _ _ (c .loop-place .inv) (c .loop-place-test .taken) (c .index-values-place .is) (c .index-values-best .is) (sym (w .if-goes-before .ensures tt)))
-      | else-goes-before w ↦ subst So-far (sym (w .best-is)) (first-best-keeps order values place best _ _ (c .loop-place .inv) (c .loop-place-test .taken) (c .index-values-place .is) (c .index-values-best .is) (sym (w .if-goes-before .ensures tt)))
+    let So-far = FirstBest (g .O·Order .before (c .args .order .now)) values (c .loop-place .place + 1) in
+    elim (c .if-goes-before-at .came) [
+      | then-goes-before-at w ↦ subst So-far (sym (w .best-is)) (best-takes strict values _ _ (c .loop-place .inv) (c .loop-place-test .taken) (w .if-goes-before-at .ensures tt))
+      | else-goes-before-at w ↦ subst So-far (sym (w .best-is)) (best-keeps strict values _ _ (c .loop-place .inv) (c .loop-place-test .taken) (w .if-goes-before-at .ensures tt))
     ]
 
 pub returns : need.returns
