@@ -1,0 +1,8 @@
+-- The sum fits, since each processor adds at most one largest time.
+use native.Mathlib.Omega.{arith}
+use Prim.Native.Nat.{_-_}
+use Rattle.std.proofs.shelf.Bits.{mul-le}
+use Rattle.verdict.proofs.bounds.longest_changeover.Needs as need
+
+pub add-result : need.add-result
+add-result c = omega (arith, mul-le (c .from-processors .result - 1) (c .from-largest .result) 254 65535 (omega arith) (omega arith))

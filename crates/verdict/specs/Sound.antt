@@ -1,0 +1,37 @@
+-- Sound plans, in which every changeover ends in time. Assumes nothing.
+use mathlib.Core.Path.{_≡_}
+use mathlib.Core.Logic.{_≢_, _⊎_}
+use Prim.Native.Nat.{ℕ, _≤_, _<_}
+use lib.ListN.{length}
+use Rattle.plan.specs.Plan.{Plan}
+use Rattle.verdict.specs.Bound.{bound-of}
+use Rattle.verdict.specs.Enabling.{tasks-in, enabling}
+use Rattle.verdict.specs.Verdict.{Told, unsound-number}
+
+-- the pair (i, j) passes: U(i) is at most every E(i, j, k)
+abbrev pub Passes : Plan → ℕ → ℕ → Type 0
+Passes p i j = (k : ℕ) → k < tasks-in p j → bound-of p i ≤ enabling p i j k
+
+-- i and j are two modes of the plan
+abbrev pub Pair : Plan → ℕ → ℕ → Type 0
+Pair p i j = (i < length (p .modes)) × (j < length (p .modes)) × (i ≢ j)
+
+-- every pair of modes passes
+abbrev pub EveryPairPasses : Plan → Type 0
+EveryPairPasses p = (i j : ℕ) → Pair p i j → Passes p i j
+
+-- the pair (i, j) is tried before the pair (old, new)
+abbrev pub Earlier : ℕ → ℕ → ℕ → ℕ → Type 0
+Earlier i j old new = (i < old) ⊎ ((i ≡ old) × (j < new))
+
+-- what is told is the first pair that fails, by its task with the least enabling deadline, the lowest of several
+pub record FirstFailing (p : Plan) (t : Told) : Type 0 where
+  pub numbered : t .number ≡ unsound-number
+  pub pair : Pair p (t .old) (t .new)
+  pub first : (i j : ℕ) → Pair p i j → Earlier i j (t .old) (t .new) → Passes p i j
+  pub task : t .task < tasks-in p (t .new)
+  pub bound : t .bound ≡ bound-of p (t .old)
+  pub deadline : t .deadline ≡ enabling p (t .old) (t .new) (t .task)
+  pub fails : t .deadline < t .bound
+  pub least : (k : ℕ) → k < tasks-in p (t .new) → t .deadline ≤ enabling p (t .old) (t .new) k
+  pub lowest : (k : ℕ) → k < t .task → t .deadline < enabling p (t .old) (t .new) k

@@ -1,0 +1,64 @@
+// The longest changeover out of a mode, in ticks.
+ghost use mathlib.Core.Path.{_≡_};
+ghost use mathlib.Core.List.{map};
+ghost use Prim.Native.Nat.{_*_, _≤_, _<_};
+ghost use lib.ListN.{length};
+ghost use Rattle.plan.specs.Held.{plan-of};
+ghost use Rattle.plan.specs.Sizes.{most-tasks, most-processors};
+ghost use Rattle.verdict.specs.Bound.{work, largest, longest, bound-of};
+use crate::tasks::tasks_of;
+use plan::Draft;
+use plan::Task;
+
+// The work of all tasks.
+fn total_work(tasks: &[Task]) -> u32
+    requires { ⌜ length (now tasks) ≤ most-tasks ⌝ }
+    ensures value { λ r. ⌜ r ≡ work (map (λ t. t .cost) (now (tasks .entry))) (length (now (tasks .entry))) ⌝ }
+    ensures bound { λ r. ⌜ r ≤ 65535 * length (now (tasks .entry)) ⌝ }
+{
+    let mut total: u32 = 0;
+    for task in tasks {
+        total += u32::from(task.cost);
+    }
+    total
+}
+
+// The largest execution time.
+fn largest_cost(tasks: &[Task]) -> u16
+    ensures { λ r. ⌜ r ≡ largest (map (λ t. t .cost) (now (tasks .entry))) ⌝ }
+{
+    let mut most: u16 = 0;
+    for task in tasks {
+        most = most.max(task.cost);
+    }
+    most
+}
+
+// The bound of so many tasks: each has a processor of its own, or the last of them waits until all are busy.
+fn longest_changeover(processors: u8, tasks: usize, work: u32, largest: u16) -> u32
+    requires some { ⌜ 1 ≤ processors ⌝ }
+    requires few { ⌜ work ≤ 65535 * most-tasks ⌝ }
+    ensures { λ r. ⌜ r ≡ longest processors tasks work largest ⌝ }
+{
+    let processors = u32::from(processors);
+    let largest = u32::from(largest);
+    if tasks <= processors as usize {
+        largest
+    } else {
+        (work + (processors - 1) * largest) / processors
+    }
+}
+
+// The longest changeover out of a mode of the draft.
+pub(crate) fn bound_of(draft: &Draft, mode: u8) -> u32
+    requires { ⌜ mode < length (plan-of (now draft .plan) .modes) ⌝ }
+    ensures { λ r. ⌜ r ≡ bound-of (plan-of (now (draft .entry) .plan)) mode ⌝ }
+{
+    let tasks = tasks_of(draft, mode);
+    longest_changeover(
+        draft.plan().processors,
+        tasks.len(),
+        total_work(tasks),
+        largest_cost(tasks),
+    )
+}
