@@ -1,2 +1,4 @@
 pub mod Limits
 pub mod Works
+pub mod Earliest
+pub mod Told

@@ -45,7 +45,7 @@ pair-told p i j = record { number = unsound-number; old = i; new = j; task = ear
 unfoldable pub failing : Plan → ℕ → ℕ → Option Told
 failing p i j = cond (passes p i j) None (Some (pair-told p i j))
 
-abbrev or-else : {A : Type 0} → Option A → Option A → Option A
+abbrev pub or-else : {A : Type 0} → Option A → Option A → Option A
 or-else (Some x) y = Some x
 or-else None y = y
 

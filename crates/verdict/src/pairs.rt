@@ -1,0 +1,75 @@
+// The judgement of pairs of modes, and the first pair that fails.
+ghost use mathlib.Core.Path.{_≡_};
+ghost use Prim.Native.Nat.{_<_};
+ghost use lib.Dec.{leb};
+ghost use lib.ListN.{length};
+ghost use Rattle.std.specs.Options.{mapped};
+ghost use Rattle.plan.specs.Held.{plan-of};
+ghost use Rattle.verdict.specs.Answers.{told};
+ghost use Rattle.verdict.specs.Verdict.{judgement, passes, pair-told, verdict};
+use crate::bounds::bound_of;
+use crate::deadlines::earliest_deadline;
+use crate::refusals::Unsound;
+use plan::Draft;
+
+// The longest changeover out of one mode, and with it the least enabling deadline of the other's tasks.
+pub(crate) fn judge_pair(draft: &Draft, old: u8, new: u8) -> (u32, u16)
+    requires old { ⌜ old < length (plan-of (now draft .plan) .modes) ⌝ }
+    requires new { ⌜ new < length (plan-of (now draft .plan) .modes) ⌝ }
+    ensures { λ r. ⌜ r ≡ judgement (plan-of (now (draft .entry) .plan)) old new ⌝ }
+{
+    (
+        bound_of(draft, old),
+        earliest_deadline(draft, old, new).ticks,
+    )
+}
+
+// Whether a changeover that takes so long ends within the deadline.
+fn ends_in_time(bound: u32, deadline: u16) -> bool
+    ensures { λ r. ⌜ r ≡ leb bound deadline ⌝ }
+{
+    bound <= u32::from(deadline)
+}
+
+// Whether the pair passes. No board goes from a mode to itself.
+fn pair_passes(draft: &Draft, old: u8, new: u8) -> bool
+    requires old { ⌜ old < length (plan-of (now draft .plan) .modes) ⌝ }
+    requires new { ⌜ new < length (plan-of (now draft .plan) .modes) ⌝ }
+    ensures { λ r. ⌜ r ≡ passes (plan-of (now (draft .entry) .plan)) old new ⌝ }
+{
+    let (bound, deadline) = judge_pair(draft, old, new);
+    old == new || ends_in_time(bound, deadline)
+}
+
+// What is told of a pair that fails.
+fn failing_pair(draft: &Draft, old: u8, new: u8) -> Unsound
+    requires old { ⌜ old < length (plan-of (now draft .plan) .modes) ⌝ }
+    requires new { ⌜ new < length (plan-of (now draft .plan) .modes) ⌝ }
+    ensures { λ r. ⌜ told r ≡ pair-told (plan-of (now (draft .entry) .plan)) old new ⌝ }
+{
+    let (bound, deadline) = judge_pair(draft, old, new);
+    Unsound {
+        old,
+        new,
+        task: earliest_deadline(draft, old, new).task,
+        bound,
+        deadline,
+    }
+}
+
+// The first pair that fails, by the mode that is left and then by the mode that is entered.
+pub(crate) fn first_failing(draft: &Draft) -> Option<Unsound>
+    ensures { λ r. ⌜ mapped told r ≡ verdict (plan-of (now (draft .entry) .plan)) ⌝ }
+{
+    let modes = draft.plan().count;
+    let mut failing = None;
+    'pairs: for old in 0..modes {
+        for new in 0..modes {
+            if !pair_passes(draft, old, new) {
+                failing = Some(failing_pair(draft, old, new));
+                break 'pairs;
+            }
+        }
+    }
+    failing
+}
