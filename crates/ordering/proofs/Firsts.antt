@@ -1,7 +1,7 @@
 -- The first of several values under a strict total order. Assumes nothing.
 use mathlib.Core.Bool.{Bool, true, false}
 use mathlib.Core.List.{List, [], _∷_}
-use mathlib.Core.Path.{_≡_, refl, sym, ap, _∙_}
+use mathlib.Core.Path.{_≡_, refl, sym, ap, subst, _∙_}
 use Prim.Native.Nat.{ℕ, zero, suc, _+_, _≤_, _<_}
 use native.Mathlib.Nat.{not-suc-le-zero, le-of-suc-le-suc}
 use native.Mathlib.Omega.{arith}
@@ -10,12 +10,13 @@ use lib.ListN.{length, getD}
 use Rattle.std.specs.Slices.{Ranks}
 use Rattle.std.specs.shelf.Bests.{FirstBest}
 use Rattle.std.specs.shelf.Lists.{leading}
+use Rattle.std.specs.declared.option.Option.{Option}
 use Rattle.std.specs.declared.option.Option.the-variants.{Some, None}
-use Rattle.std.proofs.shelf.Bests.{first-best-takes, first-best-keeps}
+use Rattle.std.proofs.shelf.Bests.{first-best-takes, first-best-keeps, first-best-from-best-of}
 use Rattle.std.proofs.shelf.Lists.{getD-default}
 use Rattle.std.proofs.shelf.Tests.{both-ways, lt-ltb, le-ltb}
 use Rattle.ordering.specs.Strict.{Strict}
-use Rattle.ordering.specs.First.{rank, first, Leads}
+use Rattle.ordering.specs.First.{rank, first, Leads, GoesFirst}
 use Rattle.ordering.proofs.Ranks.{rank-none, rank-some}
 
 -- the longest front that passes ends where a place fails and all before it pass
@@ -52,7 +53,7 @@ module _ {A : Type 0} {before : A → A → Bool} (law : Strict before) where
         at d = first-best-keeps ranks xs i best (getD xs i d) (getD xs best d) found more (getD-default xs i d _ more) (getD-default xs best d _ (omega (arith, found .0))) (sym (stays d))
 
   module _ (xs : List A) (best : ℕ) (found : FirstBest before xs (length xs) best) where
-    pub leads-at : Leads before xs best
+    leads-at : Leads before xs best
     leads-at = record {
       within = found .0;
       leads = λ k d h differ. goes k d h differ (before (getD xs best d) (getD xs k d)) refl;
@@ -78,3 +79,11 @@ module _ {A : Type 0} {before : A → A → Bool} (law : Strict before) where
   pub first-none : (xs : List A) → xs ≡ [] → None ≡ first before xs
   unfolding first
   first-none xs e = sym (ap (first before) e)
+
+  -- what is defined as the first of several goes before all others
+  pub goes-first : (xs : List A) → GoesFirst before xs (first before xs)
+  unfolding first
+  goes-first [] = refl
+  goes-first (x ∷ xs) =
+      let best = first-best-from-best-of ranks x xs in
+      subst (GoesFirst before (x ∷ xs)) (first-at (x ∷ xs) (best .0) (best .1)) (leads-at (x ∷ xs) (best .0) (best .1))

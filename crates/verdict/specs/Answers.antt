@@ -1,5 +1,5 @@
 -- What adopting a draft and asking a sound plan answer. Assumes nothing.
-use mathlib.Core.Bool.{cond, not, _&&_}
+use mathlib.Core.Bool.{Bool, cond, not, _&&_}
 use mathlib.Core.Path.{_≡_}
 use Prim.Native.Nat.{ℕ}
 use lib.Dec.{ltb, eqb}
@@ -42,6 +42,10 @@ numbered (Err e) = Err no-mode-number
 abbrev pub bound-answer : Plan → ℕ → Result ℕ ℕ
 bound-answer p i = cond (ltb i (length (p .modes))) (Ok (bound-of p i)) (Err no-mode-number)
 
+-- whether i and j are two modes of the plan
+abbrev pub is-pair : Plan → ℕ → ℕ → Bool
+is-pair p i j = ltb i (length (p .modes)) && (ltb j (length (p .modes)) && not (eqb i j))
+
 -- the judgement of the pair (i, j), where there is one
 abbrev pub changeover : Plan → ℕ → ℕ → Option (ℕ × ℕ)
-changeover p i j = cond (ltb i (length (p .modes)) && (ltb j (length (p .modes)) && not (eqb i j))) (Some (judgement p i j)) None
+changeover p i j = cond (is-pair p i j) (Some (judgement p i j)) None

@@ -3,22 +3,32 @@ use mathlib.Core.Path.{_≡_}
 use mathlib.Core.Logic.{_≢_, _⊎_}
 use Prim.Native.Nat.{ℕ, _≤_, _<_}
 use lib.ListN.{length}
+use Rattle.std.specs.declared.option.Option.{Option}
+use Rattle.std.specs.declared.option.Option.the-variants.{Some, None}
 use Rattle.plan.specs.Plan.{Plan}
 use Rattle.verdict.specs.Bound.{bound-of}
 use Rattle.verdict.specs.Enabling.{tasks-in, enabling}
 use Rattle.verdict.specs.Verdict.{Told, unsound-number}
 
--- the pair (i, j) passes: U(i) is at most every E(i, j, k)
-abbrev pub Passes : Plan → ℕ → ℕ → Type 0
-Passes p i j = (k : ℕ) → k < tasks-in p j → bound-of p i ≤ enabling p i j k
-
 -- i and j are two modes of the plan
 abbrev pub Pair : Plan → ℕ → ℕ → Type 0
 Pair p i j = (i < length (p .modes)) × (j < length (p .modes)) × (i ≢ j)
 
+-- the pair (i, j) passes: U(i) is at most every E(i, j, k)
+abbrev pub Passes : Plan → ℕ → ℕ → Type 0
+Passes p i j = (k : ℕ) → k < tasks-in p j → bound-of p i ≤ enabling p i j k
+
+-- a changeover from mode i to mode j enables task k
+abbrev pub Enables : Plan → ℕ → ℕ → ℕ → Type 0
+Enables p i j k = Pair p i j × (k < tasks-in p j)
+
+-- a number of ticks is at most every enabling deadline when mode i is left
+abbrev pub InTime : Plan → ℕ → ℕ → Type 0
+InTime p i ticks = (j k : ℕ) → Enables p i j k → ticks ≤ enabling p i j k
+
 -- every pair of modes passes
 abbrev pub EveryPairPasses : Plan → Type 0
-EveryPairPasses p = (i j : ℕ) → Pair p i j → Passes p i j
+EveryPairPasses p = (i j k : ℕ) → Enables p i j k → bound-of p i ≤ enabling p i j k
 
 -- the pair (i, j) is tried before the pair (old, new)
 abbrev pub Earlier : ℕ → ℕ → ℕ → ℕ → Type 0
@@ -35,3 +45,8 @@ pub record FirstFailing (p : Plan) (t : Told) : Type 0 where
   pub fails : t .deadline < t .bound
   pub least : (k : ℕ) → k < tasks-in p (t .new) → t .deadline ≤ enabling p (t .old) (t .new) k
   pub lowest : (k : ℕ) → k < t .task → t .deadline < enabling p (t .old) (t .new) k
+
+-- nothing is told exactly when every pair passes; else the first pair that fails is told
+abbrev pub Judged : Plan → Option Told → Type 0
+Judged p None = EveryPairPasses p
+Judged p (Some t) = FirstFailing p t × (EveryPairPasses p → ⊥)

@@ -6,6 +6,7 @@ ghost use lib.ListN.{length};
 ghost use Rattle.std.specs.Options.{mapped};
 ghost use Rattle.plan.specs.Held.{plan-of};
 ghost use Rattle.verdict.specs.Answers.{told};
+ghost use Rattle.verdict.specs.Sound.{Judged};
 ghost use Rattle.verdict.specs.Verdict.{judgement, passes, pair-told, verdict};
 use crate::bounds::bound_of;
 use crate::deadlines::earliest_deadline;
@@ -59,7 +60,8 @@ fn failing_pair(draft: &Draft, old: u8, new: u8) -> Unsound
 
 // The first pair that fails, by the mode that is left and then by the mode that is entered.
 pub(crate) fn first_failing(draft: &Draft) -> Option<Unsound>
-    ensures { λ r. ⌜ mapped told r ≡ verdict (plan-of (now (draft .entry) .plan)) ⌝ }
+    ensures value { λ r. ⌜ mapped told r ≡ verdict (plan-of (now (draft .entry) .plan)) ⌝ }
+    ensures law { λ r. ⌜ Judged (plan-of (now (draft .entry) .plan)) (mapped told r) ⌝ }
 {
     let modes = draft.plan().count;
     let mut failing = None;

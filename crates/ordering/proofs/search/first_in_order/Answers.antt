@@ -7,7 +7,8 @@ use Rattle.std.specs.shelf.Bests.{FirstBest}
 use Rattle.std.proofs.shelf.Lists.{nil-from-length}
 use Rattle.std.proofs.shelf.Tests.{eqb-true}
 use Rattle.std.proofs.shelf.Ways.{tells}
-use Rattle.ordering.proofs.Firsts.{best-takes, best-keeps, first-at, first-none, leads-at}
+use Rattle.ordering.specs.First.{GoesFirst}
+use Rattle.ordering.proofs.Firsts.{best-takes, best-keeps, first-at, first-none, goes-first}
 use Rattle.ordering.proofs.search.first_in_order.Needs as need
 use Rattle.ordering.proofs.search.first_in_order.Needs.{then-goes-before-at, else-goes-before-at}
 
@@ -33,4 +34,5 @@ returns g c =
     let some : 1 ≤ length values = grind (arith, tells, c .if-is-empty .ensures tt) in
     let all : c .loop-place .place ≡ length values = omega (arith, c .loop-place .kept .place-end some) in
     let found = subst (λ n. FirstBest (g .O·Order .before (c .args .order .now)) values n (c .loop-place .best)) all (c .loop-place .inv) in
-    record { place = first-at strict values (c .loop-place .best) found; law = leads-at strict values (c .loop-place .best) found }
+    let place = first-at strict values (c .loop-place .best) found in
+    record { place = place; law = subst (GoesFirst (g .O·Order .before (c .args .order .now)) values) (sym place) (goes-first strict values) }
