@@ -15,7 +15,7 @@ use Rattle.verdict.specs.Answers.{is-pair}
 use Rattle.verdict.specs.Bound.{bound-of}
 use Rattle.verdict.specs.Enabling.{tasks-in, enabling, earliest}
 use Rattle.verdict.specs.Sound.{Passes, Pair, EveryPairPasses, Earlier, FirstFailing, Judged}
-use Rattle.verdict.specs.Verdict.{Told, passes, pair-told, failing, first-told, failing-from, verdict}
+use Rattle.verdict.specs.Verdict.{Told, passes, pair-told, failing, failing-from, failing-before, verdict}
 use Rattle.verdict.proofs.Earliest.{Least, earliest-least}
 use Rattle.verdict.proofs.Limits.{some-tasks}
 use Rattle.verdict.proofs.Told.{told-none-of, told-some-of, pass-of-none, failure-of-some}
@@ -41,14 +41,14 @@ module _ (p : Plan) (some : (j : ℕ) → j < length (p .modes) → 1 ≤ tasks-
       omega (arith, at .ticks, all i j (earliest p i j .task) (pair, at .task))
 
   -- a row of pairs of which nothing is told passes
-  row-passes : (i m : ℕ) → first-told m (failing p i) ≡ None → (j : ℕ) → j < m → Pair p i j → Passes p i j
+  row-passes : (i m : ℕ) → failing-from p i m ≡ None → (j : ℕ) → j < m → Pair p i j → Passes p i j
   row-passes i m none j before pair = passes-all i j pair (pass-of-none p i j (told-none-of (failing p i) m none j before))
 
-  rows-pass : (m : ℕ) → first-told m (λ i. failing-from p i n) ≡ None → (i j : ℕ) → i < m → Pair p i j → Passes p i j
+  rows-pass : (m : ℕ) → failing-before p m ≡ None → (i j : ℕ) → i < m → Pair p i j → Passes p i j
   rows-pass m none i j before pair = row-passes i n (told-none-of (λ k. failing-from p k n) m none i before) j (pair .1) pair
 
   -- the first pair that fails, by its place
-  first-failing : (i j : ℕ) → i < n → j < n → passes p i j ≡ false → first-told i (λ k. failing-from p k n) ≡ None → first-told j (failing p i) ≡ None → FirstFailing p (pair-told p i j)
+  first-failing : (i j : ℕ) → i < n → j < n → passes p i j ≡ false → failing-before p i ≡ None → failing-from p i j ≡ None → FirstFailing p (pair-told p i j)
   first-failing i j is-old is-new failed rows row =
       let at = least i j is-new in
       let differ : i ≢ j = λ same. (let no : _≡_ {A = ℕ} 0 1 = grind (arith, tells) in let none : ⊥ = omega arith in none) in

@@ -14,16 +14,13 @@ use Rattle.verdict.specs.Verdict.{Told, passes, pair-told, failing, or-else, f
 
 module _ {A : Type 0} (telling : ℕ → Option A) where
   pub told-none : first-told 0 telling ≡ None
-  unfolding first-told
   told-none = refl
 
   pub told-more : (n : ℕ) → first-told n telling ≡ None → telling n ≡ None → first-told (n + 1) telling ≡ None
-  unfolding first-told
   told-more n before here = ap (λ k. first-told k telling) (add-one n) ∙ ap (λ o. or-else o (telling n)) before ∙ here
 
   -- something is told of the number after those of which nothing is told
   pub told-at : (n i : ℕ) (x : A) → i < n → first-told i telling ≡ None → telling i ≡ Some x → first-told n telling ≡ Some x
-  unfolding first-told
   told-at zero i x within before here = let no : ⊥ = omega arith in absurd no
   told-at (suc n) i x within before here = elim (cases-lt i n) [
     | inl less ↦ ap (λ o. or-else o (telling n)) (told-at n i x less before here)
@@ -32,7 +29,6 @@ module _ {A : Type 0} (telling : ℕ → Option A) where
 
   -- nothing is told of any number before
   pub told-none-of : (n : ℕ) → first-told n telling ≡ None → (k : ℕ) → k < n → telling k ≡ None
-  unfolding first-told
   told-none-of zero none k within = let no : ⊥ = omega arith in absurd no
   told-none-of (suc n) none k within = elim (cases-lt k n) [
     | inl less ↦ told-none-of n (neither (first-told n telling) (telling n) none .0) k less
@@ -48,7 +44,6 @@ module _ {A : Type 0} (telling : ℕ → Option A) where
   Told-first n x = (k : ℕ) × (k < n) × (telling k ≡ Some x) × (first-told k telling ≡ None)
 
   pub told-some-of : (n : ℕ) (x : A) → first-told n telling ≡ Some x → Told-first n x
-  unfolding first-told
   told-some-of zero x some = no-case (cc)
   told-some-of (suc n) x some = at (first-told n telling) refl some (told-some-of n x)
     where

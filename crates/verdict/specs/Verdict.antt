@@ -50,7 +50,7 @@ or-else (Some x) y = Some x
 or-else None y = y
 
 -- what is told of the first number below n of which something is told
-unfoldable pub first-told : {A : Type 0} → ℕ → (ℕ → Option A) → Option A
+abbrev pub first-told : {A : Type 0} → ℕ → (ℕ → Option A) → Option A
 first-told zero telling = None
 first-told (suc n) telling = or-else (first-told n telling) (telling n)
 
@@ -58,6 +58,10 @@ first-told (suc n) telling = or-else (first-told n telling) (telling n)
 abbrev pub failing-from : Plan → ℕ → ℕ → Option Told
 failing-from p i n = first-told n (failing p i)
 
+-- what is told of the first pair that fails, where one of the first m modes is left
+abbrev pub failing-before : Plan → ℕ → Option Told
+failing-before p m = first-told m (λ i. failing-from p i (length (p .modes)))
+
 -- what is told of the first pair that fails, by the mode that is left and then by the mode that is entered
 abbrev pub verdict : Plan → Option Told
-verdict p = first-told (length (p .modes)) (λ i. failing-from p i (length (p .modes)))
+verdict p = failing-before p (length (p .modes))

@@ -4,7 +4,7 @@ ghost use Rattle.plan.specs.Held.{plan-of};
 ghost use Rattle.verdict.specs.Answers.{refusal, adopted};
 ghost use Rattle.verdict.specs.Sound.{Judged};
 ghost use Rattle.verdict.specs.Verdict.{verdict};
-use crate::pairs::first_failing;
+use crate::pairs::verdict_on;
 use crate::refusals::Unsound;
 use crate::sound::SoundPlan;
 use plan::Draft;
@@ -16,7 +16,7 @@ pub fn adopt(draft: Draft, place: &mut SoundPlan) -> Result<(), Unsound>
     ensures place { λ _. ⌜ now (place .exit) .draft .plan ≡ adopted (verdict (plan-of (draft .plan))) (draft .plan) (now (place .entry) .draft .plan) ⌝ }
     ensures law { λ r. ⌜ Judged (plan-of (draft .plan)) (refusal r) ⌝ }
 {
-    match first_failing(&draft) {
+    match verdict_on(&draft) {
         Some(unsound) => Err(unsound),
         None => {
             *place = SoundPlan::new(draft);

@@ -45,7 +45,8 @@ fn longest_changeover(processors: u8, tasks: usize, work: u32, largest: u16) -> 
     if tasks <= processors as usize {
         largest
     } else {
-        (work + (processors - 1) * largest) / processors
+        let all_busy = work + (processors - 1) * largest;
+        all_busy / processors
     }
 }
 
