@@ -32,14 +32,18 @@ mode-line i bound = line (codes "leaving mode " ∷ decimal i ∷ codes ": at mo
 unfoldable pub pair-line : ℕ → ℕ × ℕ → List ℕ
 pair-line j pair = line (codes "  to mode " ∷ decimal j ∷ codes ": least enabling deadline " ∷ ticks (pair .1) ∷ codes ", margin " ∷ ticks (pair .1 - pair .0) ∷ [])
 
--- the line of a changeover, where there is one
-abbrev pub changeover-line : ℕ → Option (ℕ × ℕ) → List ℕ
-changeover-line j None = []
-changeover-line j (Some pair) = pair-line j pair
+-- the line of a judgement, where there is one
+abbrev pub judgement-line : ℕ → Option (ℕ × ℕ) → List ℕ
+judgement-line j None = []
+judgement-line j (Some pair) = pair-line j pair
 
--- the lines of the changeovers from mode i, to each other mode
+-- the changeover from mode i to mode j, where there is one
+abbrev pub changeover-text : Plan → ℕ → ℕ → List ℕ
+changeover-text p i j = judgement-line j (changeover p i j)
+
+-- the changeovers from mode i, to each other mode
 abbrev pub pairs-text : Plan → ℕ → List ℕ
-pairs-text p i = joined (λ j. changeover-line j (changeover p i j)) (counting 0 (length (p .modes)))
+pairs-text p i = joined (changeover-text p i) (counting 0 (length (p .modes)))
 
 -- a mode, and the changeovers from it
 abbrev pub mode-text : Plan → ℕ → List ℕ

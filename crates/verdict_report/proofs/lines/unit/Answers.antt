@@ -3,6 +3,10 @@ use borrow.Author.Needs.{needs}
 use Rattle.verdict_report.specs.VerdictText.{unit}
 use Rattle.verdict_report.proofs.lines.unit.Needs as need
 
-pub returns : need.returns
+pub returns-then-number-eq1 : need.returns-then-number-eq1
 unfolding unit
-returns c = search needs
+returns-then-number-eq1 c = search needs
+
+pub returns-else-number-eq1 : need.returns-else-number-eq1
+unfolding unit
+returns-else-number-eq1 c = search needs

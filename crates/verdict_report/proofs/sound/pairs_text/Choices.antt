@@ -4,9 +4,8 @@ use Rattle.std.specs.Iters.{counting}
 use Rattle.std.specs.Joined.{joined}
 use Rattle.std.specs.Of.String.{string-bytes}
 use Rattle.plan.specs.Held.{plan-of}
-use Rattle.verdict.specs.Answers.{changeover}
-use Rattle.verdict_report.specs.VerdictText.{changeover-line}
+use Rattle.verdict_report.specs.VerdictText.{changeover-text}
 use Rattle.verdict_report.proofs.sound.pairs_text.Given as given
 
 abbrev pub Inv-loop-new : given.InvT-loop-new
-Inv-loop-new l = string-bytes (l .text) ≡ joined (λ j. changeover-line j (changeover (plan-of (l .plan .draft .plan)) (l .old) j)) (counting 0 (l .new))
+Inv-loop-new l = string-bytes (l .text) ≡ joined (changeover-text (plan-of (l .plan .draft .plan)) (l .old)) (counting 0 (l .new))
