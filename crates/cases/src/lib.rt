@@ -4,6 +4,8 @@ ghost use Rattle.plan.specs.Held.{plan-of};
 ghost use Rattle.cases.specs.Table.{worked, worked-file, Facts};
 use plan::Draft;
 use plan::read;
+use verdict::SoundPlan;
+use verdict::adopt;
 
 fn file_bytes() -> [u8; 18]
     ensures { λ r. ⌜ r ≡ worked-file ⌝ }
@@ -46,4 +48,14 @@ pub fn worked_plan() -> Draft
     let mut draft = Draft::least();
     let _ = read(&file, &mut draft);
     draft
+}
+
+// The worked plan as a sound plan.
+pub fn worked_sound_plan() -> SoundPlan
+    ensures { λ r. ⌜ plan-of (r .draft .plan) ≡ worked ⌝ }
+{
+    let draft = worked_plan();
+    let mut plan = SoundPlan::least();
+    let _ = adopt(draft, &mut plan);
+    plan
 }

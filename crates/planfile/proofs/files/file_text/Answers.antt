@@ -8,4 +8,4 @@ use Rattle.planfile.proofs.files.file_text.Needs as need
 pub returns-in-Ok : need.returns-in-Ok
 returns-in-Ok c =
     let as-plan = exactly (c .args .bytes .now) .1 _ (c .in-Ok .ensures tt .law .0 refl) in
-    made-weaker (c .draft-text .result) _ _ (λ s e. e ∙ sym (ap file-text as-plan)) (c .draft-text .ensures)
+    made-weaker (c .judged-text .result) _ _ (λ s e. e ∙ sym (ap file-text as-plan)) (c .judged-text .ensures)
