@@ -1,4 +1,4 @@
-// Shows the plan file of the folder that it runs in, or why the file is refused.
+// Shows the plan file of the folder that it runs in, with the verdict on it, or why the file is refused.
 use planfile::file_text;
 use planfile::plan_bytes;
 use std::error::AnyError;

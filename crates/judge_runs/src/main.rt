@@ -3,8 +3,9 @@ use planfile::file_text;
 use planfile::plan_bytes;
 use std::error::AnyError;
 
-// `missing.bin` is not there; `largest.bin` is a plan of the greatest length, 2,504 bytes.
-const FILES: [&str; 17] = [
+// `missing.bin` is not there; `largest.bin` is a plan of the greatest length, 2,504 bytes. The plans from `tight.bin` on are for
+// the verdict: deadlines below the bound, equal ones, several pairs that fail, and bounds that equal a deadline.
+const FILES: [&str; 24] = [
     "worked.bin",
     "missing.bin",
     "empty.bin",
@@ -22,6 +23,13 @@ const FILES: [&str; 17] = [
     "least.bin",
     "largest.bin",
     "largest_and_byte.bin",
+    "tight.bin",
+    "tie.bin",
+    "first_pair.bin",
+    "several.bin",
+    "processor_each.bin",
+    "one_processor.bin",
+    "eight_modes.bin",
 ];
 
 fn show(rt: &LibcRuntime, name: &str) -> Result<(), AnyError> {

@@ -1,7 +1,8 @@
 -- The longest changeover out of a mode, in ticks. Assumes nothing.
 use mathlib.Core.Bool.{cond}
 use mathlib.Core.List.{List, map}
-use Prim.Native.Nat.{ℕ, zero, suc, max, _+_, _-_, _*_, _/_}
+use mathlib.Core.Path.{_≡_}
+use Prim.Native.Nat.{ℕ, zero, suc, max, _+_, _-_, _*_, _/_, _≤_, _<_}
 use lib.Dec.{leb}
 use lib.ListN.{length, getD}
 use Rattle.std.specs.shelf.Lists.{folded}
@@ -31,3 +32,17 @@ bound m cs = longest m (length cs) (work cs (length cs)) (largest cs)
 -- U(i), the longest changeover out of mode i
 abbrev pub bound-of : Plan → ℕ → ℕ
 bound-of p i = bound (p .processors) (costs (mode-at p i))
+
+-- a number of ticks is the bound of tasks with these C on m processors, in other words:
+pub record Longest (m : ℕ) (cs : List ℕ) (ticks : ℕ) : Type 0 where
+  -- it is at least every C, and at most the work of all tasks
+  pub each : (k : ℕ) → k < length cs → getD cs k 0 ≤ ticks
+  pub all : ticks ≤ work cs (length cs)
+  -- where every task has a processor of its own, it is the largest C
+  pub alone : length cs ≤ m → ticks ≡ largest cs
+  -- else m processors do so many ticks of work, and no tick more, in the work of all tasks and m - 1 times the largest C
+  pub shared : m < length cs → (m * ticks ≤ work cs (length cs) + (m - 1) * largest cs) × (work cs (length cs) + (m - 1) * largest cs < m * (ticks + 1))
+
+-- a number of ticks is the longest changeover out of mode i
+abbrev pub LongestOf : Plan → ℕ → ℕ → Type 0
+LongestOf p i ticks = Longest (p .processors) (costs (mode-at p i)) ticks

@@ -5,7 +5,7 @@ ghost use Prim.Native.Nat.{_*_, _≤_, _<_};
 ghost use lib.ListN.{length};
 ghost use Rattle.plan.specs.Held.{plan-of};
 ghost use Rattle.plan.specs.Sizes.{most-tasks, most-processors};
-ghost use Rattle.verdict.specs.Bound.{work, largest, longest, bound-of};
+ghost use Rattle.verdict.specs.Bound.{work, largest, longest, bound-of, LongestOf};
 use crate::tasks::tasks_of;
 use plan::Draft;
 use plan::Task;
@@ -53,7 +53,8 @@ fn longest_changeover(processors: u8, tasks: usize, work: u32, largest: u16) -> 
 // The longest changeover out of a mode of the draft.
 pub(crate) fn bound_of(draft: &Draft, mode: u8) -> u32
     requires { ⌜ mode < length (plan-of (now draft .plan) .modes) ⌝ }
-    ensures { λ r. ⌜ r ≡ bound-of (plan-of (now (draft .entry) .plan)) mode ⌝ }
+    ensures value { λ r. ⌜ r ≡ bound-of (plan-of (now (draft .entry) .plan)) mode ⌝ }
+    ensures law { λ r. ⌜ LongestOf (plan-of (now (draft .entry) .plan)) mode r ⌝ }
 {
     let tasks = tasks_of(draft, mode);
     longest_changeover(

@@ -8,6 +8,7 @@ ghost use Rattle.plan.specs.Builtin.{least};
 ghost use Rattle.plan.specs.Held.{plan-of, plan-table};
 ghost use Rattle.plan.specs.Plan.{Within};
 ghost use Rattle.verdict.specs.Answers.{numbered, bound-answer, is-pair, changeover};
+ghost use Rattle.verdict.specs.Bound.{LongestOf};
 ghost use Rattle.verdict.specs.Sound.{EveryPairPasses, InTime};
 use crate::bounds::bound_of;
 use crate::pairs::judge_pair;
@@ -51,6 +52,7 @@ impl SoundPlan {
     // The longest changeover out of a mode, in ticks, which is at most every enabling deadline when that mode is left.
     pub fn bound(&self, mode: u8) -> Result<u32, NoMode>
         ensures value { λ r. ⌜ numbered r ≡ bound-answer (plan-of (now (self .entry) .draft .plan)) mode ⌝ }
+        ensures law { λ r. ⌜ made r (LongestOf (plan-of (now (self .entry) .draft .plan)) mode) ⌝ }
         ensures sound { λ r. ⌜ made r (InTime (plan-of (now (self .entry) .draft .plan)) mode) ⌝ }
     {
         if mode >= self.modes() {
