@@ -2,7 +2,7 @@
 use mathlib.Core.Bool.{Bool, true, false}
 use mathlib.Core.List.{List, [], _∷_}
 use mathlib.Core.Path.{_≡_, refl, sym, ap, subst, _∙_}
-use Prim.Native.Nat.{ℕ, zero, suc, _+_, _≤_, _<_}
+use Prim.Native.Nat.{ℕ, zero, suc, _+_, _<_}
 use native.Mathlib.Nat.{not-suc-le-zero, le-of-suc-le-suc}
 use native.Mathlib.Omega.{arith}
 use lib.Dec.{ltb}
@@ -10,7 +10,6 @@ use lib.ListN.{length, getD}
 use Rattle.std.specs.Slices.{Ranks}
 use Rattle.std.specs.shelf.Bests.{FirstBest}
 use Rattle.std.specs.shelf.Lists.{leading}
-use Rattle.std.specs.declared.option.Option.{Option}
 use Rattle.std.specs.declared.option.Option.the-variants.{Some, None}
 use Rattle.std.proofs.shelf.Bests.{first-best-takes, first-best-keeps, first-best-from-best-of}
 use Rattle.std.proofs.shelf.Lists.{getD-default}

@@ -1,16 +1,14 @@
 -- How many of several values go before one. Assumes nothing.
 use mathlib.Core.Bool.{Bool, true, false, cond}
-use mathlib.Core.List.{List, [], _∷_}
-use mathlib.Core.Path.{_≡_, refl, sym, ap, _∙_}
-use Prim.Native.Nat.{ℕ, zero, suc, _+_, _*_, _≤_, _<_}
+use mathlib.Core.List.{List}
+use mathlib.Core.Path.{_≡_}
+use Prim.Native.Nat.{ℕ, _≤_, _<_}
 use native.Mathlib.Omega.{arith}
 use native.Mathlib.Nat.{mul-zero}
-use lib.Dec.{ltb}
 use lib.ListN.{length, getD}
-use Rattle.std.specs.shelf.Lists.{All, countBy, leading}
+use Rattle.std.specs.shelf.Lists.{All}
 use Rattle.std.proofs.shelf.Elements.{all-from-every, all-weaker}
 use Rattle.std.proofs.shelf.Sums.{getD-le-sumBy, sumBy-le}
-use Rattle.std.proofs.shelf.Tests.{lt-ltb, le-ltb}
 use Rattle.ordering.specs.First.{rank}
 
 module _ {A : Type 0} (before : A → A → Bool) (xs : List A) (x : A) where

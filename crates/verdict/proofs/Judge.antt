@@ -1,7 +1,7 @@
 -- The verdict tells nothing exactly when every pair passes, and else the first pair that fails. Assumes nothing.
 use mathlib.Core.Bool.{true, false}
-use mathlib.Core.Logic.{_≢_, _⊎_, inl, inr}
-use mathlib.Core.Path.{_≡_, refl, sym, ap, subst, _∙_}
+use mathlib.Core.Logic.{_≢_, inl, inr}
+use mathlib.Core.Path.{_≡_, refl, sym, subst}
 use Prim.Native.Nat.{ℕ, _≤_, _<_}
 use native.Mathlib.Omega.{arith}
 use lib.ListN.{length}
@@ -13,8 +13,8 @@ use Rattle.plan.specs.Held.{plan-of}
 use Rattle.plan.specs.Plan.{Plan, mode-at}
 use Rattle.verdict.specs.Answers.{is-pair}
 use Rattle.verdict.specs.Bound.{bound-of}
-use Rattle.verdict.specs.Enabling.{tasks-in, enabling, earliest}
-use Rattle.verdict.specs.Sound.{Passes, Pair, EveryPairPasses, Earlier, FirstFailing, Judged}
+use Rattle.verdict.specs.Enabling.{tasks-in, earliest}
+use Rattle.verdict.specs.Sound.{Passes, Pair, EveryPairPasses, FirstFailing, Judged}
 use Rattle.verdict.specs.Verdict.{Told, passes, pair-told, failing, failing-from, failing-before, verdict}
 use Rattle.verdict.proofs.Earliest.{Least, earliest-least}
 use Rattle.verdict.proofs.Limits.{some-tasks}

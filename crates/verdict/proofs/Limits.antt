@@ -1,5 +1,4 @@
 -- What the limits of a draft say of its tables. Assumes nothing.
-use mathlib.Core.List.{map}
 use mathlib.Core.Logic.{∥∥₁-elim}
 use mathlib.Core.Path.{_≡_, sym, ap, _∙_}
 use Prim.Native.Nat.{ℕ, _≤_, _<_}
@@ -11,7 +10,7 @@ use Rattle.plan.specs.declared.tables.Mode.{Mode as ModeTable}
 use Rattle.plan.specs.declared.tables.Plan.{Plan as PlanTable}
 use Rattle.plan.specs.Held.{mode-of, plan-of, plan-table}
 use Rattle.plan.specs.Plan.{Plan, Within, no-mode, mode-at}
-use Rattle.plan.specs.Sizes.{most-processors, most-modes, most-tasks}
+use Rattle.plan.specs.Sizes.{most-modes, most-tasks}
 
 -- an inequality that follows from the limits
 limit : (p : Plan) (a b : ℕ) → ∥ Within p ∥₁ → (Within p → a ≤ b) → a ≤ b

@@ -1,15 +1,15 @@
 -- What the bound of a mode is, in other words than its formula. Assumes nothing.
 use mathlib.Core.List.{List, [], _∷_}
 use mathlib.Core.Logic.{inl, inr}
-use mathlib.Core.Path.{_≡_, refl, sym, ap, subst, _∙_}
-use Prim.Native.Nat.{ℕ, zero, suc, max, _+_, _-_, _*_, _/_, _%_, _≤_, _<_}
+use mathlib.Core.Path.{_≡_, sym, ap, subst, _∙_}
+use Prim.Native.Nat.{ℕ, zero, suc, max, _+_, _-_, _*_, _/_, _≤_, _<_}
 use native.Mathlib.Nat.{not-suc-le-zero, le-of-suc-le-suc, le-max-left, le-max-right, max-le, mul-comm, mul-add, add-mul, mul-one, one-mul}
 use native.Mathlib.Omega.{arith}
 use lib.ListN.{length, getD}
 use Rattle.std.specs.shelf.Lists.{folded}
 use Rattle.std.proofs.shelf.Bits.{div-add-mod', mod-below, le-div, div-below, mul-le}
 use Rattle.std.proofs.shelf.Tests.{cases-lt, cond-true, cond-false, le-leb, lt-leb}
-use Rattle.verdict.specs.Bound.{work, largest, longest, bound, Longest}
+use Rattle.verdict.specs.Bound.{work, largest, bound, Longest}
 
 -- a running maximum is at least where it began and each number, and at most what all of these are at most
 most-start : (a : ℕ) (cs : List ℕ) → a ≤ folded max a cs

@@ -40,7 +40,7 @@ pub record Longest (m : ℕ) (cs : List ℕ) (ticks : ℕ) : Type 0 where
   pub all : ticks ≤ work cs (length cs)
   -- where every task has a processor of its own, it is the largest C
   pub alone : length cs ≤ m → ticks ≡ largest cs
-  -- else m processors do so many ticks of work, and no tick more, in the work of all tasks and m - 1 times the largest C
+  -- else it is the greatest number of ticks that m processors fill with the work of all tasks and m - 1 times the largest C
   pub shared : m < length cs → (m * ticks ≤ work cs (length cs) + (m - 1) * largest cs) × (work cs (length cs) + (m - 1) * largest cs < m * (ticks + 1))
 
 -- a number of ticks is the longest changeover out of mode i

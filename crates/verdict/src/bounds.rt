@@ -4,13 +4,13 @@ ghost use mathlib.Core.List.{map};
 ghost use Prim.Native.Nat.{_*_, _≤_, _<_};
 ghost use lib.ListN.{length};
 ghost use Rattle.plan.specs.Held.{plan-of};
-ghost use Rattle.plan.specs.Sizes.{most-tasks, most-processors};
+ghost use Rattle.plan.specs.Sizes.{most-tasks};
 ghost use Rattle.verdict.specs.Bound.{work, largest, longest, bound-of, LongestOf};
 use crate::tasks::tasks_of;
 use plan::Draft;
 use plan::Task;
 
-// The work of all tasks.
+// The work of all tasks. An execution time has 16 bits, so the work of a mode fits.
 fn total_work(tasks: &[Task]) -> u32
     requires { ⌜ length (now tasks) ≤ most-tasks ⌝ }
     ensures value { λ r. ⌜ r ≡ work (map (λ t. t .cost) (now (tasks .entry))) (length (now (tasks .entry))) ⌝ }
@@ -34,7 +34,8 @@ fn largest_cost(tasks: &[Task]) -> u16
     most
 }
 
-// The bound of so many tasks: each has a processor of its own, or the last of them waits until all are busy.
+// The bound of so many tasks. Each has a processor of its own, or a job waits while all processors are busy with the others:
+// their work divided by the processors, and then its own time, come to no more than the quotient.
 fn longest_changeover(processors: u8, tasks: usize, work: u32, largest: u16) -> u32
     requires some { ⌜ 1 ≤ processors ⌝ }
     requires few { ⌜ work ≤ 65535 * most-tasks ⌝ }
