@@ -28,7 +28,7 @@ leading-at p (x ∷ xs) (suc i) d within front here =
     rw this (omega (arith, rest))
 
 module _ {A : Type 0} {before : A → A → Bool} (law : Strict before) where
-  -- an order ranks: what neither precedes nor is preceded by the same does not differ
+  -- what does not go before y, where y does not go before z, does not go before z
   ranks : Ranks before
   ranks = record { one-way = law .one-way; chain = λ x y z p q. not-before x y z p q (before x z) refl (before y x) refl }
     where
@@ -51,6 +51,7 @@ module _ {A : Type 0} {before : A → A → Bool} (law : Strict before) where
         at : (d : A) → FirstBest before xs (i + 1) best
         at d = first-best-keeps ranks xs i best (getD xs i d) (getD xs best d) found more (getD-default xs i d _ more) (getD-default xs best d _ (omega (arith, found .0))) (sym (stays d))
 
+  -- the best of all goes before all others
   module _ (xs : List A) (best : ℕ) (found : FirstBest before xs (length xs) best) where
     leads-at : Leads before xs best
     leads-at = record {
@@ -63,6 +64,7 @@ module _ {A : Type 0} {before : A → A → Bool} (law : Strict before) where
         goes k d h differ true e = refl
         goes k d h differ false e = absurd (differ (law .connected (getD xs k d) (getD xs best d) (found .1 k d h) e))
 
+  -- the place that such a search ends with is the first, as it is defined
   pub first-at : (xs : List A) (best : ℕ) → FirstBest before xs (length xs) best → Some best ≡ first before xs
   unfolding first
   first-at [] best found = absurd (not-suc-le-zero (found .0))

@@ -34,7 +34,7 @@ module _ (p : Plan) (some : (j : ℕ) → j < length (p .modes) → 1 ≤ tasks-
       let in-time : bound-of p i ≤ earliest p i j .ticks = grind (arith, tells) in
       λ k within. omega (arith, least i j (pair .1) .least k within)
 
-  -- and the other way round
+  -- the bound is at most the least deadline where every pair passes
   pub in-time : EveryPairPasses p → (i j : ℕ) → Pair p i j → bound-of p i ≤ earliest p i j .ticks
   in-time all i j pair =
       let at = least i j (pair .1) in

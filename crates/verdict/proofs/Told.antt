@@ -13,9 +13,7 @@ use Rattle.std.specs.declared.option.Option.the-variants.{Some, None}
 use Rattle.verdict.specs.Verdict.{Told, passes, pair-told, failing, or-else, first-told}
 
 module _ {A : Type 0} (telling : ℕ → Option A) where
-  pub told-none : first-told 0 telling ≡ None
-  told-none = refl
-
+  -- nothing is told of one number more
   pub told-more : (n : ℕ) → first-told n telling ≡ None → telling n ≡ None → first-told (n + 1) telling ≡ None
   told-more n before here = ap (λ k. first-told k telling) (add-one n) ∙ ap (λ o. or-else o (telling n)) before ∙ here
 
@@ -27,7 +25,7 @@ module _ {A : Type 0} (telling : ℕ → Option A) where
     | inr last ↦ let same : i ≡ n = omega arith in ap (λ k. or-else (first-told k telling) (telling k)) (sym same) ∙ ap (λ o. or-else o (telling i)) before ∙ here
   ]
 
-  -- nothing is told of any number before
+  -- where nothing is told, nothing is told of any number
   pub told-none-of : (n : ℕ) → first-told n telling ≡ None → (k : ℕ) → k < n → telling k ≡ None
   told-none-of zero none k within = let no : ⊥ = omega arith in absurd no
   told-none-of (suc n) none k within = elim (cases-lt k n) [
@@ -39,7 +37,7 @@ module _ {A : Type 0} (telling : ℕ → Option A) where
       neither None y e = (refl, e)
       neither (Some z) y e = no-case (cc)
 
-  -- something is told of a number, and nothing of those before it
+  -- where something is told, it is told of a number, and nothing of those before it
   abbrev Told-first : ℕ → A → Type 0
   Told-first n x = (k : ℕ) × (k < n) × (telling k ≡ Some x) × (first-told k telling ≡ None)
 
@@ -52,7 +50,7 @@ module _ {A : Type 0} (telling : ℕ → Option A) where
       at (Some y) e h before = let earlier = before (e ∙ h) in (earlier .0, omega (arith, earlier .1), earlier .2, earlier .3)
 
 module _ (p : Plan) (i j : ℕ) where
-  -- nothing is told of a pair that passes, and what is told of one that fails
+  -- a pair of which nothing is told passes, and one that is told fails, both ways round
   pub told-of-pass : passes p i j ≡ true → failing p i j ≡ None
   unfolding failing
   told-of-pass e = cond-true (passes p i j) None (Some (pair-told p i j)) e
