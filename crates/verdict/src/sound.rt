@@ -16,7 +16,7 @@ use crate::refusals::NoMode;
 use plan::Draft;
 
 // Its plan keeps the limits of the fields, and every pair of its modes passes.
-// Neither `Copy` nor `Clone`: whoever starts a controller on a sound plan uses it up.
+// Neither `Copy` nor `Clone`: one adopted draft is one sound plan.
 #[derive(Drop)]
 pub struct SoundPlan {
     draft: Draft,

@@ -53,27 +53,31 @@ mode-text p i = mode-line i (bound-of p i) ++ pairs-text p i
 abbrev pub modes-text : Plan → List ℕ
 modes-text p = joined (mode-text p) (counting 0 (length (p .modes)))
 
+-- the first line of a sound plan
 unfoldable pub sound-line : List ℕ
 sound-line = line (codes "sound: every changeover ends within every enabling deadline" ∷ [])
 
--- a plan that is sound
+-- a sound plan: the first line, and its modes
 abbrev pub sound-text : Plan → List ℕ
 sound-text p = sound-line ++ modes-text p
 
--- a plan that is refused: why, and the pair, the task, the bound and the deadline
+-- the first line of a plan that is refused: why
 unfoldable pub refusal-line : ℕ → List ℕ
 refusal-line n = line (codes "refused " ∷ decimal n ∷ codes ": a changeover may outlast an enabling deadline" ∷ [])
 
+-- the second line: the pair, the bound, the task and its deadline
 unfoldable pub failing-line : Told → List ℕ
 failing-line t = line (codes "from mode " ∷ decimal (t .old) ∷ codes " to mode " ∷ decimal (t .new) ∷ codes ": at most " ∷ ticks (t .bound) ∷ codes ", and the enabling deadline of task " ∷ decimal (t .task) ∷ codes " is " ∷ ticks (t .deadline) ∷ [])
 
+-- a plan that is refused: the two lines
 abbrev pub unsound-text : Told → List ℕ
 unsound-text t = refusal-line (t .number) ++ failing-line t
 
--- what is told of a plan
+-- a plan of which nothing is told, or what is told of it
 abbrev pub told-text : Plan → Option Told → List ℕ
 told-text p None = sound-text p
 told-text p (Some t) = unsound-text t
 
+-- the verdict on a plan
 abbrev pub verdict-text : Plan → List ℕ
 verdict-text p = told-text p (verdict p)
