@@ -20,6 +20,7 @@ pub record Judgement : Type 0 where
   pub bounds : List ℕ
   pub told : Option PairTold
 
+-- how a plan is judged
 abbrev pub judgement : Plan → Judgement
 judgement p = record { bounds = map (bound-of p) (counting 0 (length (p .modes))); told = verdict p }
 
@@ -47,6 +48,7 @@ Holds (judges file is) = judged (decode file) ≡ Ok is
 abbrev front : List ℕ
 front = 0x24 ∷ 0x00 ∷ 0x00 ∷ 0x60 ∷ 0x00 ∷ 0xa0 ∷ 0x01 ∷ 0x00 ∷ 0x00 ∷ 0x88 ∷ 0x00 ∷ 0x20 ∷ 0x00 ∷ 0x30 ∷ 0x00 ∷ 0x48 ∷ 0x00 ∷ []
 
+-- the worked plan's file
 abbrev pub worked-file : List ℕ
 worked-file = front ++ 0x18 ∷ []
 
@@ -61,9 +63,11 @@ worked = record {
       ∷ [];
 }
 
+-- a file that is refused, at a field of no mode and no task
 abbrev refused : ℕ → ℕ → ℕ → Result Plan Told
 refused number field bit = Err (record { number = number; field = field; mode = none; task = none; bit = bit })
 
+-- the table
 abbrev pub rows : List Row
 rows =
     decodes worked-file (Ok worked)

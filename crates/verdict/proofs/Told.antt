@@ -8,21 +8,22 @@ use mathlib.Core.Bool.{Bool, true, false, cond}
 use Rattle.plan.specs.Plan.{Plan}
 use Rattle.plan.proofs.Exits.{no-case}
 use Rattle.std.proofs.shelf.Tests.{cases-lt, cond-true, cond-false}
+use Rattle.std.specs.Options.{orOther}
 use Rattle.std.specs.declared.option.Option.{Option}
 use Rattle.std.specs.declared.option.Option.the-variants.{Some, None}
-use Rattle.verdict.specs.Verdict.{Told, passes, pair-told, failing, or-else, first-told}
+use Rattle.verdict.specs.Verdict.{Told, passes, pair-told, failing, first-told}
 
 module _ {A : Type 0} (telling : ℕ → Option A) where
   -- nothing is told of one number more
   pub told-more : (n : ℕ) → first-told n telling ≡ None → telling n ≡ None → first-told (n + 1) telling ≡ None
-  told-more n before here = ap (λ k. first-told k telling) (add-one n) ∙ ap (λ o. or-else o (telling n)) before ∙ here
+  told-more n before here = ap (λ k. first-told k telling) (add-one n) ∙ ap (λ o. orOther o (telling n)) before ∙ here
 
   -- something is told of the number after those of which nothing is told
   pub told-at : (n i : ℕ) (x : A) → i < n → first-told i telling ≡ None → telling i ≡ Some x → first-told n telling ≡ Some x
   told-at zero i x within before here = let no : ⊥ = omega arith in absurd no
   told-at (suc n) i x within before here = elim (cases-lt i n) [
-    | inl less ↦ ap (λ o. or-else o (telling n)) (told-at n i x less before here)
-    | inr last ↦ let same : i ≡ n = omega arith in ap (λ k. or-else (first-told k telling) (telling k)) (sym same) ∙ ap (λ o. or-else o (telling i)) before ∙ here
+    | inl less ↦ ap (λ o. orOther o (telling n)) (told-at n i x less before here)
+    | inr last ↦ let same : i ≡ n = omega arith in ap (λ k. orOther (first-told k telling) (telling k)) (sym same) ∙ ap (λ o. orOther o (telling i)) before ∙ here
   ]
 
   -- where nothing is told, nothing is told of any number
@@ -33,7 +34,7 @@ module _ {A : Type 0} (telling : ℕ → Option A) where
     | inr last ↦ let same : k ≡ n = omega arith in ap telling same ∙ neither (first-told n telling) (telling n) none .1
   ]
     where
-      neither : (x y : Option A) → or-else x y ≡ None → (x ≡ None) × (y ≡ None)
+      neither : (x y : Option A) → orOther x y ≡ None → (x ≡ None) × (y ≡ None)
       neither None y e = (refl, e)
       neither (Some z) y e = no-case (cc)
 
@@ -45,7 +46,7 @@ module _ {A : Type 0} (telling : ℕ → Option A) where
   told-some-of zero x some = no-case (cc)
   told-some-of (suc n) x some = at (first-told n telling) refl some (told-some-of n x)
     where
-      at : (o : Option A) → first-told n telling ≡ o → or-else o (telling n) ≡ Some x → (first-told n telling ≡ Some x → Told-first n x) → Told-first (suc n) x
+      at : (o : Option A) → first-told n telling ≡ o → orOther o (telling n) ≡ Some x → (first-told n telling ≡ Some x → Told-first n x) → Told-first (suc n) x
       at None e h before = (n, omega arith, h, e)
       at (Some y) e h before = let earlier = before (e ∙ h) in (earlier .0, omega (arith, earlier .1), earlier .2, earlier .3)
 

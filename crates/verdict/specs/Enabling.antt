@@ -29,6 +29,7 @@ deadlines i ts = map (λ k. record { ticks = deadline-of i ts k; task = k }) (co
 abbrev pub deadline-keys : Deadline → List ℕ
 deadline-keys d = d .ticks ∷ d .task ∷ []
 
+-- what stands for a deadline that is not there
 abbrev pub no-deadline : Deadline
 no-deadline = record { ticks = 0; task = 0 }
 

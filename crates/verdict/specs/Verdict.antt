@@ -3,6 +3,7 @@ use mathlib.Core.Bool.{Bool, cond, _||_}
 use Prim.Native.Nat.{ℕ, zero, suc}
 use lib.Dec.{leb, eqb}
 use lib.ListN.{length}
+use Rattle.std.specs.Options.{orOther}
 use Rattle.std.specs.declared.option.Option.{Option}
 use Rattle.std.specs.declared.option.Option.the-variants.{Some, None}
 use Rattle.plan.specs.Plan.{Plan}
@@ -45,14 +46,10 @@ pair-told p i j = record { number = unsound-number; old = i; new = j; task = ear
 unfoldable pub failing : Plan → ℕ → ℕ → Option Told
 failing p i j = cond (passes p i j) None (Some (pair-told p i j))
 
-abbrev pub or-else : {A : Type 0} → Option A → Option A → Option A
-or-else (Some x) y = Some x
-or-else None y = y
-
 -- what is told of the first number below n of which something is told
 abbrev pub first-told : {A : Type 0} → ℕ → (ℕ → Option A) → Option A
 first-told zero telling = None
-first-told (suc n) telling = or-else (first-told n telling) (telling n)
+first-told (suc n) telling = orOther (first-told n telling) (telling n)
 
 -- what is told of the first pair that fails, where the first n modes are entered from mode i
 abbrev pub failing-from : Plan → ℕ → ℕ → Option Told
