@@ -10,4 +10,5 @@ pub record Strict {A : Type 0} (before : A → A → Bool) : Type 0 where
   pub connected : (a b : A) → before a b ≡ false → before b a ≡ false → a ≡ b
   -- and not both
   pub one-way : (a b : A) → before a b ≡ true → before b a ≡ false
+  -- what goes before another goes before all that the other goes before
   pub transitive : (a b c : A) → before a b ≡ true → before b c ≡ true → before a c ≡ true

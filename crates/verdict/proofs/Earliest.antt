@@ -24,11 +24,7 @@ use Rattle.plan.specs.declared.tables.Task.{Task as TaskTable}
 use Rattle.plan.specs.Held.{task-of}
 use Rattle.plan.specs.Plan.{Task, no-task}
 use Rattle.verdict.specs.declared.deadlines.Deadline.{Deadline}
-use Rattle.verdict.specs.Enabling.{deadline-of, deadlines, deadline-keys, no-deadline, earliest-of}
-
--- the deadline of a task, with its number
-abbrev pub numbered : ℕ → List Task → ℕ → Deadline
-numbered i ts k = record { ticks = deadline-of i ts k; task = k }
+use Rattle.verdict.specs.Enabling.{deadline-of, task-deadline, deadlines, deadline-keys, no-deadline, earliest-of}
 
 module _ (modes i : ℕ) (is-mode : i < modes) (tasks : List TaskTable) where
   -- the tables of a task hold its enabling deadlines
@@ -38,10 +34,10 @@ module _ (modes i : ℕ) (is-mode : i < modes) (tasks : List TaskTable) where
       ∙ getD-take modes (getD tasks k d .enabling) i 0 is-mode
 
   -- one deadline more
-  pub deadlines-more : (k : ℕ) (d : TaskTable) (found : List Deadline) (one : Deadline) → k < length tasks → k < length found → one .ticks ≡ getD (getD tasks k d .enabling) i 0 → one .task ≡ k → take k found ≡ map (numbered i (map (task-of modes) tasks)) (counting 0 k) → take (k + 1) (set found k one) ≡ map (numbered i (map (task-of modes) tasks)) (counting 0 (k + 1))
+  pub deadlines-more : (k : ℕ) (d : TaskTable) (found : List Deadline) (one : Deadline) → k < length tasks → k < length found → one .ticks ≡ getD (getD tasks k d .enabling) i 0 → one .task ≡ k → take k found ≡ map (task-deadline i (map (task-of modes) tasks)) (counting 0 k) → take (k + 1) (set found k one) ≡ map (task-deadline i (map (task-of modes) tasks)) (counting 0 (k + 1))
   deadlines-more k d found one within room ticks task so-far =
-      let held : one ≡ numbered i (map (task-of modes) tasks) k = let e = ticks ∙ sym (deadline-held k d within) in λ j. record { ticks = e j; task = task j } in
-      take-more-set found k one room ∙ (λ j. so-far j ++ held j ∷ []) ∙ sym (map-counting-more (numbered i (map (task-of modes) tasks)) 0 k k (zero-add k))
+      let held : one ≡ task-deadline i (map (task-of modes) tasks) k = let e = ticks ∙ sym (deadline-held k d within) in λ j. record { ticks = e j; task = task j } in
+      take-more-set found k one room ∙ (λ j. so-far j ++ held j ∷ []) ∙ sym (map-counting-more (task-deadline i (map (task-of modes) tasks)) 0 k k (zero-add k))
 
 -- the earliest of several stands at their first place
 pub earliest-at : (ds : List Deadline) (place : ℕ) → Some place ≡ first (by-keys deadline-keys) ds → getD ds place no-deadline ≡ earliest-of ds
@@ -67,20 +63,20 @@ module _ (i : ℕ) (ts : List Task) where
   listed = deadlines i ts
 
   size : length listed ≡ length ts
-  size = length-map-counting (numbered i ts) 0 (length ts)
+  size = length-map-counting (task-deadline i ts) 0 (length ts)
 
-  at-place : (k : ℕ) → k < length ts → getD listed k no-deadline ≡ numbered i ts k
-  at-place k within = getD-map-counting (numbered i ts) 0 (length ts) k k no-deadline within (zero-add k)
+  at-place : (k : ℕ) → k < length ts → getD listed k no-deadline ≡ task-deadline i ts k
+  at-place k within = getD-map-counting (task-deadline i ts) 0 (length ts) k k no-deadline within (zero-add k)
 
   -- the deadline that goes first goes before that of any other task
-  goes-before : (place k : ℕ) → Leads (by-keys deadline-keys) listed place → place < length ts → k < length ts → (k ≡ place → ⊥) → by-keys deadline-keys (numbered i ts place) (numbered i ts k) ≡ true
+  goes-before : (place k : ℕ) → Leads (by-keys deadline-keys) listed place → place < length ts → k < length ts → (k ≡ place → ⊥) → by-keys deadline-keys (task-deadline i ts place) (task-deadline i ts k) ≡ true
   goes-before place k leads inside within differ =
       let here = at-place place inside in
       let there = at-place k within in
       ap₂ (by-keys deadline-keys) (sym here) (sym there)
       ∙ leads .leads k no-deadline (omega (arith, size)) (λ same. differ (ap (λ d. d .task) (sym there ∙ same ∙ here)))
 
-  least-first : (place : ℕ) → Leads (by-keys deadline-keys) listed place → Least i ts (numbered i ts place)
+  least-first : (place : ℕ) → Leads (by-keys deadline-keys) listed place → Least i ts (task-deadline i ts place)
   least-first place leads = record {
     task = inside;
     ticks = refl;

@@ -31,12 +31,12 @@ module _ (p : Plan) (some : (j : ℕ) → j < length (p .modes) → 1 ≤ tasks-
   passes-all : (i j : ℕ) → Pair p i j → passes p i j ≡ true → Passes p i j
   passes-all i j pair passed =
       let differ : i ≢ j = pair .2 in
-      let in-time : bound-of p i ≤ earliest p i j .ticks = grind (arith, tells) in
+      let meets : bound-of p i ≤ earliest p i j .ticks = grind (arith, tells) in
       λ k within. omega (arith, least i j (pair .1) .least k within)
 
   -- the bound is at most the least deadline where every pair passes
-  pub in-time : EveryPairPasses p → (i j : ℕ) → Pair p i j → bound-of p i ≤ earliest p i j .ticks
-  in-time all i j pair =
+  pub meets-earliest : EveryPairPasses p → (i j : ℕ) → Pair p i j → bound-of p i ≤ earliest p i j .ticks
+  meets-earliest all i j pair =
       let at = least i j (pair .1) in
       omega (arith, at .ticks, all i j (earliest p i j .task) (pair, at .task))
 
@@ -53,7 +53,7 @@ module _ (p : Plan) (some : (j : ℕ) → j < length (p .modes) → 1 ≤ tasks-
       let at = least i j is-new in
       let differ : i ≢ j = λ same. (let no : _≡_ {A = ℕ} 0 1 = grind (arith, tells) in let none : ⊥ = omega arith in none) in
       record {
-        numbered = refl;
+        number = refl;
         pair = (is-old, is-new, differ);
         first = λ k l pair earlier. elim earlier [
           | inl before ↦ rows-pass i rows k l before pair
@@ -90,9 +90,5 @@ pub pair-from : (p : Plan) (i j : ℕ) → is-pair p i j ≡ true → Pair p i j
 pair-from p i j e = (grind (arith, tells), grind (arith, tells), λ same. let no : _≡_ {A = ℕ} 0 1 = grind (arith, tells) in let none : ⊥ = omega arith in none)
 
 -- the verdict on a draft
-module _ (d : Draft) where
-  pub has-tasks : (j : ℕ) → j < length (plan-of (d .plan) .modes) → 1 ≤ tasks-in (plan-of (d .plan)) j
-  has-tasks = some-tasks (d .plan) (d .within) (d .blank)
-
-  pub judged-as : (found : Option Told) → found ≡ verdict (plan-of (d .plan)) → Judged (plan-of (d .plan)) found
-  judged-as found is = subst (λ o. Judged (plan-of (d .plan)) o) (sym is) (judged (plan-of (d .plan)) has-tasks)
+pub judged-as : (d : Draft) (found : Option Told) → found ≡ verdict (plan-of (d .plan)) → Judged (plan-of (d .plan)) found
+judged-as d found is = subst (λ o. Judged (plan-of (d .plan)) o) (sym is) (judged (plan-of (d .plan)) (some-tasks d))

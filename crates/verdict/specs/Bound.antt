@@ -6,11 +6,16 @@ use Prim.Native.Nat.{ℕ, zero, suc, max, _+_, _-_, _*_, _/_, _≤_, _<_}
 use lib.Dec.{leb}
 use lib.ListN.{length, getD}
 use Rattle.std.specs.shelf.Lists.{folded}
+use Rattle.plan.specs.declared.tables.Task.{Task as TaskTable}
 use Rattle.plan.specs.Plan.{Mode, Plan, mode-at}
 
 -- the execution times C of the tasks of a mode
 abbrev pub costs : Mode → List ℕ
 costs m = map (λ t. t .cost) (m .tasks)
+
+-- those of a table of tasks
+abbrev pub table-costs : List TaskTable → List ℕ
+table-costs ts = map (λ t. t .cost) ts
 
 -- W(k), the work of the first k tasks
 unfoldable pub work : List ℕ → ℕ → ℕ
@@ -22,12 +27,12 @@ abbrev pub largest : List ℕ → ℕ
 largest cs = folded max 0 cs
 
 -- the bound on m processors of n tasks that have work w in all and a largest C of c
-abbrev pub longest : ℕ → ℕ → ℕ → ℕ → ℕ
-longest m n w c = cond (leb n m) c ((w + (m - 1) * c) / m)
+abbrev pub bound-formula : ℕ → ℕ → ℕ → ℕ → ℕ
+bound-formula m n w c = cond (leb n m) c ((w + (m - 1) * c) / m)
 
 -- the bound of tasks with these C on m processors
 abbrev pub bound : ℕ → List ℕ → ℕ
-bound m cs = longest m (length cs) (work cs (length cs)) (largest cs)
+bound m cs = bound-formula m (length cs) (work cs (length cs)) (largest cs)
 
 -- U(i), the longest changeover out of mode i
 abbrev pub bound-of : Plan → ℕ → ℕ

@@ -21,9 +21,13 @@ deadline-of i ts k = getD (getD ts k no-task .enabling) i 0
 abbrev pub enabling : Plan → ℕ → ℕ → ℕ → ℕ
 enabling p i j k = deadline-of i (mode-at p j .tasks) k
 
--- the enabling deadlines of some tasks when mode i is left, each with the number of its task
+-- the enabling deadline of task k, of these, with the number of the task
+abbrev pub task-deadline : ℕ → List Task → ℕ → Deadline
+task-deadline i ts k = record { ticks = deadline-of i ts k; task = k }
+
+-- the enabling deadlines of some tasks when mode i is left
 abbrev pub deadlines : ℕ → List Task → List Deadline
-deadlines i ts = map (λ k. record { ticks = deadline-of i ts k; task = k }) (counting 0 (length ts))
+deadlines i ts = map (task-deadline i ts) (counting 0 (length ts))
 
 -- deadlines go by their ticks and then by their tasks
 abbrev pub deadline-keys : Deadline → List ℕ

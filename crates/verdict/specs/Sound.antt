@@ -36,7 +36,7 @@ Earlier i j old new = (i < old) ⊎ ((i ≡ old) × (j < new))
 
 -- what is told is the first pair that fails, with the lowest task that has its least enabling deadline
 pub record FirstFailing (p : Plan) (t : Told) : Type 0 where
-  pub numbered : t .number ≡ unsound-number
+  pub number : t .number ≡ unsound-number
   -- two modes, and every pair before them passes
   pub pair : Pair p (t .old) (t .new)
   pub first : (i j : ℕ) → Pair p i j → Earlier i j (t .old) (t .new) → Passes p i j

@@ -1,7 +1,6 @@
 // The judgement of pairs of modes, and the first pair that fails.
 ghost use mathlib.Core.Path.{_≡_};
 ghost use Prim.Native.Nat.{_+_, _<_};
-ghost use lib.Dec.{leb};
 ghost use lib.ListN.{length};
 ghost use Rattle.std.specs.Options.{mapped};
 ghost use Rattle.std.specs.Slices.{found};
@@ -9,7 +8,7 @@ ghost use Rattle.std.specs.declared.option.Option.the-variants.{Some, None};
 ghost use Rattle.plan.specs.Held.{plan-of};
 ghost use Rattle.verdict.specs.Answers.{told};
 ghost use Rattle.verdict.specs.Sound.{Judged};
-ghost use Rattle.verdict.specs.Verdict.{judgement, passes, pair-told, failing-from, failing-before, verdict};
+ghost use Rattle.verdict.specs.Verdict.{judgement, in-time, passes, pair-told, failing-from, failing-before, verdict};
 use crate::bounds::bound_of;
 use crate::deadlines::earliest_deadline;
 use crate::refusals::Unsound;
@@ -29,7 +28,7 @@ pub(crate) fn judge_pair(draft: &Draft, old: u8, new: u8) -> (u32, u16)
 
 // Whether a changeover that takes so long ends within the deadline.
 fn ends_in_time(bound: u32, deadline: u16) -> bool
-    ensures { λ r. ⌜ r ≡ leb bound deadline ⌝ }
+    ensures { λ r. ⌜ r ≡ in-time (bound, deadline) ⌝ }
 {
     bound <= u32::from(deadline)
 }

@@ -9,6 +9,7 @@ use Rattle.std.proofs.shelf.Counted.{map-counting-more}
 use Rattle.std.proofs.shelf.Lists.{map-id, joined-more}
 
 module _ (part : ℕ → List ℕ) (n : ℕ) where
+  -- one part more
   parts-more : joined part (counting 0 (n + 1)) ≡ joined part (counting 0 n) ++ part n
   parts-more =
       let more = sym (map-id (counting 0 (n + 1))) ∙ map-counting-more (λ k. k) 0 n n (zero-add n) ∙ ap (λ ks. ks ++ n ∷ []) (map-id (counting 0 n)) in

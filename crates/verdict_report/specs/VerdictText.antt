@@ -24,9 +24,13 @@ unit n = cond (eqb n 1) (codes "tick") (codes "ticks")
 unfoldable pub ticks : ℕ → List ℕ
 ticks n = decimal n ++ (codes " " ++ unit n)
 
--- the line of a mode: the longest changeover out of it, also in milliseconds, of which a tick has 10
+-- the milliseconds of a tick
+abbrev pub tick-ms : ℕ
+tick-ms = 10
+
+-- the line of a mode: the longest changeover out of it, in ticks and in milliseconds
 unfoldable pub mode-line : ℕ → ℕ → List ℕ
-mode-line i bound = line (codes "leaving mode " ∷ decimal i ∷ codes ": at most " ∷ ticks bound ∷ codes ", " ∷ decimal (bound * 10) ∷ codes " ms" ∷ [])
+mode-line i bound = line (codes "leaving mode " ∷ decimal i ∷ codes ": at most " ∷ ticks bound ∷ codes ", " ∷ decimal (bound * tick-ms) ∷ codes " ms" ∷ [])
 
 -- the line of a changeover to mode j: the least enabling deadline, and how far the bound stays below it
 unfoldable pub pair-line : ℕ → ℕ × ℕ → List ℕ

@@ -18,7 +18,7 @@ fn unit(number: u32) -> &'static str
 }
 
 // A number of ticks with its unit.
-pub fn ticks_text(heap: Global, number: u32) -> Result<String, AllocError>
+pub(crate) fn ticks_text(heap: Global, number: u32) -> Result<String, AllocError>
     ensures { λ r. ⌜ made r (λ s. string-bytes s ≡ ticks number) ⌝ }
 {
     let unit = unit(number);
@@ -26,7 +26,7 @@ pub fn ticks_text(heap: Global, number: u32) -> Result<String, AllocError>
 }
 
 // The line of a mode: the longest changeover out of it.
-pub fn mode_line(heap: Global, mode: u8, bound: u32) -> Result<String, AllocError>
+pub(crate) fn mode_line(heap: Global, mode: u8, bound: u32) -> Result<String, AllocError>
     ensures { λ r. ⌜ made r (λ s. string-bytes s ≡ mode-line mode bound) ⌝ }
 {
     let time = ticks_text(heap, bound)?;
@@ -35,7 +35,12 @@ pub fn mode_line(heap: Global, mode: u8, bound: u32) -> Result<String, AllocErro
 }
 
 // The line of a changeover: the least enabling deadline of the mode that is entered, and the margin.
-pub fn pair_line(heap: Global, new: u8, bound: u32, deadline: u16) -> Result<String, AllocError>
+pub(crate) fn pair_line(
+    heap: Global,
+    new: u8,
+    bound: u32,
+    deadline: u16,
+) -> Result<String, AllocError>
     requires { ⌜ bound ≤ deadline ⌝ }
     ensures { λ r. ⌜ made r (λ s. string-bytes s ≡ pair-line new (bound, deadline)) ⌝ }
 {

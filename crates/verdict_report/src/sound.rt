@@ -41,6 +41,7 @@ fn bound_text(heap: Global, plan: &SoundPlan, mode: u8) -> Result<String, AllocE
 {
     match plan.bound(mode) {
         Ok(bound) => mode_line(heap, mode, bound),
+        // It is one of the plan's modes.
         Err(_) => unreachable(),
     }
 }

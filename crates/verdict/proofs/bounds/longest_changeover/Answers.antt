@@ -5,4 +5,4 @@ use Rattle.std.proofs.shelf.Bits.{mul-le}
 use Rattle.verdict.proofs.bounds.longest_changeover.Needs as need
 
 pub add-all-busy : need.add-all-busy
-add-all-busy c = omega (arith, mul-le (c .from-processors .result - 1) (c .from-largest .result) 254 65535 (omega arith) (omega arith))
+add-all-busy c = omega (arith, mul-le (c .from-processors .result - 1) (c .from-most .result) 254 65535 (omega arith) (omega arith))

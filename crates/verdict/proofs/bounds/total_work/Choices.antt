@@ -1,9 +1,8 @@
 -- The total so far is the work of the tasks so far.
-use mathlib.Core.List.{map}
 use mathlib.Core.Path.{_≡_}
 use Prim.Native.Nat.{_*_, _≤_}
-use Rattle.verdict.specs.Bound.{work}
+use Rattle.verdict.specs.Bound.{table-costs, work}
 use Rattle.verdict.proofs.bounds.total_work.Given as given
 
 abbrev pub Inv-loop-task : given.InvT-loop-task
-Inv-loop-task l = (l .total ≡ work (map (λ t. t .cost) (l .tasks)) (l .task-index)) × (l .total ≤ 65535 * l .task-index)
+Inv-loop-task l = (l .total ≡ work (table-costs (l .tasks)) (l .task-index)) × (l .total ≤ 65535 * l .task-index)

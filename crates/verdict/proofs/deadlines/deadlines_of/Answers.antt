@@ -6,7 +6,8 @@ use lib.ListN.{length, take}
 use Rattle.std.specs.Iters.{counting}
 use Rattle.std.proofs.shelf.Lists.{length-map, length-set}
 use Rattle.plan.specs.Held.{task-of}
-use Rattle.verdict.proofs.Earliest.{numbered, deadlines-more}
+use Rattle.verdict.specs.Enabling.{task-deadline}
+use Rattle.verdict.proofs.Earliest.{deadlines-more}
 use Rattle.verdict.proofs.deadlines.deadlines_of.Needs as need
 
 pub loop-number-holds : need.loop-number-holds
@@ -24,4 +25,4 @@ returns c =
     let tasks = c .args .tasks .now in
     let all : c .loop-number .number ≡ length tasks = omega arith in
     λ modes is-mode.
-    ap (λ n. take n (c .loop-number .found)) (sym all) ∙ c .loop-number .inv .1 modes is-mode ∙ ap (λ n. map (numbered (c .args .old) (map (task-of modes) tasks)) (counting 0 n)) (all ∙ sym (length-map tasks (task-of modes)))
+    ap (λ n. take n (c .loop-number .found)) (sym all) ∙ c .loop-number .inv .1 modes is-mode ∙ ap (λ n. map (task-deadline (c .args .old) (map (task-of modes) tasks)) (counting 0 n)) (all ∙ sym (length-map tasks (task-of modes)))

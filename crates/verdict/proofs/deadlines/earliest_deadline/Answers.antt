@@ -16,7 +16,7 @@ use Rattle.verdict.proofs.deadlines.earliest_deadline.Needs as need
 pub deadlines-of-deadlines-requires : need.deadlines-of-deadlines-requires
 deadlines-of-deadlines-requires c κs =
     let d = c .args .draft .now in
-    record { few = omega arith; old = omega (arith, few-modes (d .plan) (d .within) (d .blank)) }
+    record { few = omega arith; old = omega (arith, few-modes d) }
 
 pub returns : need.returns
 returns c =

@@ -12,5 +12,5 @@ pub pairs-again : need.pairs-again
 pairs-again c =
     let d = c .args .draft .now in
     let p = plan-of (d .plan) in
-    let all : c .loop-new .new ≡ length (p .modes) = omega (arith, ap (λ t. t .count) (c .plan .ensures), count-held (d .plan) (d .within) (d .blank)) in
+    let all : c .loop-new .new ≡ length (p .modes) = omega (arith, ap (λ t. t .count) (c .plan .ensures), count-held d) in
     (c .loop-new .inv .0, told-more (λ i. failing-from p i (length (p .modes))) (c .pairs .old) (c .pairs .inv .1) (ap (failing-from p (c .pairs .old)) (sym all) ∙ c .loop-new .inv .1))

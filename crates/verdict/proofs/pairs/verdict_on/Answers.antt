@@ -1,3 +1,4 @@
+-- The law of the verdict holds of what was found.
 use Rattle.std.specs.Options.{mapped}
 use Rattle.verdict.specs.Answers.{told}
 use Rattle.verdict.proofs.Judge.{judged-as}

@@ -12,18 +12,18 @@ use Rattle.verdict.proofs.tasks.tasks_of.Needs as need
 pub index-plan-from : need.index-plan-from
 index-plan-from c =
     let d = c .args .draft .now in
-    omega (arith, few-modes (d .plan) (d .within) (d .blank))
+    omega (arith, few-modes d)
 
 pub returns : need.returns
 returns c =
     let d = c .args .draft .now in
-    let count = count-held (d .plan) (d .within) (d .blank) in
-    let held = ap (λ m. m .tasks) (mode-held (d .plan) (d .within) (d .blank) (c .args .mode) (c .pre) (record { rule = 0; count = 0; tasks = [] })) in
+    let count = count-held d in
+    let held = ap (λ m. m .tasks) (mode-held d (c .args .mode) (c .pre) (record { rule = 0; count = 0; tasks = [] })) in
     let same : map (task-of (length (plan-of (d .plan) .modes))) (c .first .result .now) ≡ mode-at (plan-of (d .plan)) (c .args .mode) .tasks = cc in
     let size = length-map (c .first .result .now) (task-of (length (plan-of (d .plan) .modes))) in
     let long = ap length same in
     record {
       tasks = same;
-      some = omega (arith, some-tasks (d .plan) (d .within) (d .blank) (c .args .mode) (c .pre));
-      few = omega (arith, few-tasks (d .plan) (d .within) (d .blank) (c .args .mode) (c .pre));
+      some = omega (arith, some-tasks d (c .args .mode) (c .pre));
+      few = omega (arith, few-tasks d (c .args .mode) (c .pre));
     }

@@ -1,3 +1,4 @@
+-- Deadlines go by keys that determine them.
 use Rattle.verdict.proofs.Earliest.{deadlines-strict}
 use Rattle.verdict.proofs.deadlines.ByDeadlineOrder.the-impl.Needs as need
 

@@ -3,7 +3,8 @@ use borrow.Author.Needs.{needs}
 use native.Mathlib.Omega.{arith}
 use mathlib.Core.Path.{sym, ap}
 use Rattle.plan.specs.Held.{plan-of}
-use Rattle.verdict.proofs.Judge.{in-time, pair-from, has-tasks}
+use Rattle.verdict.proofs.Judge.{meets-earliest, pair-from}
+use Rattle.verdict.proofs.Limits.{some-tasks}
 use Rattle.verdict.proofs.sound.SoundPlan.changeover.Needs as need
 
 pub returns : need.returns
@@ -11,7 +12,7 @@ returns c =
     let plan = c .args .self .now in
     let p = plan-of (plan .draft .plan) in
     let pair = pair-from p (c .args .old) (c .args .new) (sym (c .if-not-has-pair .ensures tt)) in
-    let meets = in-time p (has-tasks (plan .draft)) (plan .sound) (c .args .old) (c .args .new) pair in
+    let meets = meets-earliest p (some-tasks (plan .draft)) (plan .sound) (c .args .old) (c .args .new) pair in
     record {
       value = search needs;
       sound = omega (arith, meets, ap (λ r. r .0) (c .judge-pair .ensures), ap (λ r. r .1) (c .judge-pair .ensures));
