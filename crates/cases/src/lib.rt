@@ -1,4 +1,6 @@
 // Worked examples: a table of facts of the definitions, and the worked plan as code.
+#![tactic(auto)]
+
 ghost use Rattle.std.specs.Prelude.{◌≡◌};
 ghost use Rattle.plan.specs.Held.{plan_of};
 ghost use Rattle.cases.specs.Table.{worked, worked_file, Facts};

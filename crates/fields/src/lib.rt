@@ -1,4 +1,6 @@
 // Numbers in fields of bits: a reader over borrowed bytes, and what can be wrong with a file.
+#![tactic(auto)]
+
 mod bits;
 mod fault;
 mod fronts;

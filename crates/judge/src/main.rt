@@ -1,4 +1,6 @@
 // Shows the plan file of the folder that it runs in, with the verdict on it, or why the file is refused.
+#![tactic(auto)]
+
 use planfile::{file_text, plan_bytes};
 
 fn run(rt: &HostRuntime) -> anyhow::Result<()> {

@@ -1,4 +1,6 @@
 // Shows a row of plan files, good and damaged, each as the program `judge` does.
+#![tactic(auto)]
+
 use planfile::{file_text, plan_bytes};
 
 // `missing.bin` is not there; `largest.bin` is a plan of the greatest length, 2,504 bytes. The plans from `tight.bin` on are for

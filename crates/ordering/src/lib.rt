@@ -1,4 +1,6 @@
 // Strict total orders, and the first of several values under one.
+#![tactic(auto)]
+
 mod order;
 mod search;
 

@@ -1,4 +1,6 @@
 // A priority rule of one's own, as a model for others: the latest release goes first.
+#![tactic(auto)]
+
 ghost use Rattle.own_rule.specs.Latest.{latest_first, latest_first_code};
 ghost use Rattle.ordering.proofs.Grouped.{descending_strict, by_group_strict};
 ghost use Rattle.rules.specs.Orders.{file_rank};

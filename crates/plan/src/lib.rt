@@ -1,4 +1,6 @@
 // Mode plans: their tables and limits, and the bit-packed file that holds one.
+#![tactic(auto)]
+
 mod draft;
 mod file;
 mod reader;

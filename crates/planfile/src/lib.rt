@@ -1,4 +1,6 @@
 // Plan files for programs: the bytes of one, and the text that a person reads of it.
+#![tactic(auto)]
+
 mod files;
 mod loads;
 

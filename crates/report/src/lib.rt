@@ -1,4 +1,6 @@
 // The texts of plans and faults, as a person reads them.
+#![tactic(auto)]
+
 mod cells;
 mod faults;
 mod plans;

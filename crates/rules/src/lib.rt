@@ -1,4 +1,6 @@
 // Priority rules: which of two jobs goes first.
+#![tactic(auto)]
+
 mod by_mode;
 mod codes;
 mod jobs;

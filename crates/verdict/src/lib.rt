@@ -1,4 +1,6 @@
 // The verdict on a plan: the longest changeover out of each mode, and whether every changeover ends in time.
+#![tactic(auto)]
+
 mod adoption;
 mod bounds;
 mod deadlines;

@@ -1,4 +1,6 @@
 // The text of a verdict, as a person reads it.
+#![tactic(auto)]
+
 mod lines;
 mod sound;
 mod unsound;
