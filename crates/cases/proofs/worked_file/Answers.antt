@@ -3,6 +3,6 @@ use Rattle.cases.proofs.worked_file.Goals as goal
 
 pub returns : goal.returns
 returns c = record {
-  file = c.file-bytes.ensures;
+  file = c.file_bytes.ensures;
   facts = facts;
 }

@@ -8,31 +8,31 @@ use Rattle.plan.proofs.Accepts.{stopped_cases, plan_read, refusal_read, read_wit
 use Rattle.plan.proofs.Front.{front}
 use Rattle.plan.proofs.TableOf.{plan_back}
 use Rattle.plan.proofs.file.draft_in.Goals as goal
-use Rattle.plan.proofs.file.draft_in.Goals.{In-ok-plan}
+use Rattle.plan.proofs.file.draft_in.Goals.{In_ok-plan}
 
 -- the plan in the file, whose tables were read
-read_plan : (c : In-ok-plan) → (p : Plan) × (decode c.args.bytes.now ≡ Ok p) × (c.in-ok-plan.plan ≡ plan_table p)
-read_plan c = plan_read _ _ c.in-ok-plan.ensures
+read_plan : (c : In_ok-plan) → (p : Plan) × (decode c.args.bytes.now ≡ Ok p) × (c.in_ok-plan.plan ≡ plan_table p)
+read_plan c = plan_read _ _ c.in_ok-plan.ensures
 
 -- the tables that were read hold the plan in the file
-holds : (c : In-ok-plan) → plan_of c.in-ok-plan.plan ≡ (read_plan c).0
+holds : (c : In_ok-plan) → plan_of c.in_ok-plan.plan ≡ (read_plan c).0
 holds c =
     let p = read_plan c in
     ap plan_of p.2 ∙ plan_back p.0 (read_within c.args.bytes.now p.0 p.1)
 
-pub returns-in-err-plan : goal.returns-in-err-plan
-returns-in-err-plan c =
+pub returns-in_err-plan : goal.returns-in_err-plan
+returns-in_err-plan c =
     let bytes = c.args.bytes.now in
-    let told = refusal_read (decode bytes) _ c.in-err-plan.ensures in
+    let told = refusal_read (decode bytes) _ c.in_err-plan.ensures in
     record {
-      cases = stopped_cases (λ (d : Draft). Drafted bytes d.plan) (Refused bytes) c.from-residual.result c.in-err-plan.field-0.0 c.from-residual.ensures.1
+      cases = stopped_cases (λ (d : Draft). Drafted bytes d.plan) (Refused bytes) c.from_residual.result c.in_err-plan.field-0.0 c.from_residual.ensures.1
           (ap refused_as told, λ old. ap (λ r. placed r old) told, λ plan. refuses bytes _ plan told);
       front = front bytes;
     }
 
 pub new-requires : goal.new-requires
 new-requires c =
-    let at = (goal.at.new-requires c).In-ok-plan in
+    let at = (goal.at.new-requires c).In_ok-plan in
     let p = read_plan at in
     record {
       within = subst (λ q. Within q) (sym (holds at)) (read_within c.args.bytes.now p.0 p.1);
@@ -41,7 +41,7 @@ new-requires c =
 
 pub returns : goal.returns
 returns c =
-    let at = (goal.at.returns c).In-ok-plan in
+    let at = (goal.at.returns c).In_ok-plan in
     let p = read_plan at in
     let tables = c.new.ensures in
     record {

@@ -12,22 +12,22 @@ use Rattle.plan.proofs.file.tables_in.Goals as goal
 use Rattle.plan.proofs.file.tables_in.Goals.{After-stray}
 
 -- the plan that was read, and how the file is decoded with it
-fields_read : (c : After-stray) → Read plan_table (plan_layout.read (bits (seen c.args.bytes.now)) 0) c.in-ok-plan.plan c.read_plan.new.bits.at
-fields_read c = read_from plan_table _ _ _ (rw (c.new-reader.ensures.bytes, c.new-reader.ensures.place) at c.in-ok-plan.ensures.value)
+fields_read : (c : After-stray) → Read plan_table (plan_layout.read (bits (seen c.args.bytes.now)) 0) c.in_ok-plan.plan c.read_plan.new.bits.at
+fields_read c = read_from plan_table _ _ _ (rw (c.new-reader.ensures.bytes, c.new-reader.ensures.place) at c.in_ok-plan.ensures.value)
 
 file_read : (c : After-stray) → decode c.args.bytes.now ≡ ended (fields_read c).value c.stray.result
 file_read c =
-    let same = c.in-ok-plan.ensures.bytes ∙ c.new-reader.ensures.bytes in
+    let same = c.in_ok-plan.ensures.bytes ∙ c.new-reader.ensures.bytes in
     let at = c.read_plan.new.bits.at in
     sym (front_seen c.args.bytes.now) ∙ decoded (seen c.args.bytes.now) _ at _ (fields_read c).reads (c.stray.ensures ∙ ap (λ bytes. stray (byte_end at) (drop at (bits bytes)) at) same)
 
-pub returns-in-err-plan : goal.returns-in-err-plan
+pub returns-in_err-plan : goal.returns-in_err-plan
 unfolding decode
-returns-in-err-plan c =
+returns-in_err-plan c =
     let bytes = seen c.args.bytes.now in
-    let told = rw (c.new-reader.ensures.bytes, c.new-reader.ensures.place) at c.in-err-plan.ensures.value in
+    let told = rw (c.new-reader.ensures.bytes, c.new-reader.ensures.place) at c.in_err-plan.ensures.value in
     let refused = refused_from plan_table (plan_layout.read (bits bytes) 0) _ told in
-    stopped_numbered c.from-residual.result c.in-err-plan.field-0.0 c.from-residual.ensures.1 ∙ sym (ap (λ r. tabled (closed (bits bytes) r)) refused) ∙ ap tabled (front_seen c.args.bytes.now)
+    stopped_numbered c.from_residual.result c.in_err-plan.field-0.0 c.from_residual.ensures.1 ∙ sym (ap (λ r. tabled (closed (bits bytes) r)) refused) ∙ ap tabled (front_seen c.args.bytes.now)
 
 pub returns-in-Some : goal.returns-in-Some
 returns-in-Some c =

@@ -4,4 +4,4 @@ use Rattle.std.proofs.lemmas.Result.{IfOk-weaker}
 use Rattle.report.proofs.cells.number_cell.Goals as goal
 
 pub returns : goal.returns
-returns c = IfOk-weaker c.text-cell.result _ _ (λ s e. search rules) c.text-cell.ensures
+returns c = IfOk-weaker c.text_cell.result _ _ (λ s e. search rules) c.text_cell.ensures

@@ -6,7 +6,7 @@ use Rattle.std.proofs.lemmas.List.{take_all}
 use Rattle.report.specs.PlanText.{old_mode}
 use Rattle.report.proofs.Lists.{others_none, others_own, others_more}
 use Rattle.report.proofs.cells.old_mode_cells.Goals as goal
-use Rattle.report.proofs.cells.old_mode_cells.Goals.{then-old-own+in-ok-old-mode-cell+in-ok-push-str, else-old-own}
+use Rattle.report.proofs.cells.old_mode_cells.Goals.{then-old-own+in_ok-old_mode_cell+in_ok-push_str, else-old-own}
 
 pub loop-old-init : goal.loop-old-init
 loop-old-init c = c.new-cells.ensures.bytes ∙ others_none old_mode c.args.own
@@ -18,10 +18,10 @@ loop-old-preserved c =
     let within : old < length modes = rw length-range_with_len c.loop-old-test.true in
     let at : get_or modes old 0 ≡ old = get_or-range_with_len 0 c.args.modes old 0 c.loop-old-test.true ∙ zero-add old in
     elim c.if-old-own.branch [
-      | then-old-own+in-ok-old-mode-cell+in-ok-push-str w ↦
+      | then-old-own+in_ok-old_mode_cell+in_ok-push_str w ↦
           let more = rw at at (others_more old_mode modes old 0 within c.args.own w.if-old-own.true) in
-          let cell = w.in-ok-old-mode-cell.ensures in
-          let put = w.in-ok-push-str.ensures.bytes in
+          let cell = w.in_ok-old_mode_cell.ensures in
+          let put = w.in_ok-push_str.ensures.bytes in
           cc
       | else-old-own w ↦
           let own = others_own old_mode modes old 0 within in

@@ -11,8 +11,8 @@ loop-number-init c = c.new-text.ensures.bytes ∙ each_none (mode_text (min c.fr
 
 pub loop-number-preserved : goal.loop-number-preserved
 loop-number-preserved c =
-    each_more (mode_text (min c.from_count.result 8)) (mode_of c.from_count.result) {now = string_bytes c.push-str.new.self} _ _ _
-    c.loop-number-test.true c.loop-number.invariant c.in-ok-mode-text.ensures c.deref.ensures c.in-ok-push-str.ensures.bytes
+    each_more (mode_text (min c.from_count.result 8)) (mode_of c.from_count.result) {now = string_bytes c.push_str.new.self} _ _ _
+    c.loop-number-test.true c.loop-number.invariant c.in_ok-mode_text.ensures c.deref.ensures c.in_ok-push_str.ensures.bytes
 
 pub returns : goal.returns
 returns c =

@@ -11,8 +11,8 @@ loop-number-init c = c.new-rows.ensures.bytes ∙ each_none (task_row c.args.own
 
 pub loop-number-preserved : goal.loop-number-preserved
 loop-number-preserved c =
-    each_more (task_row c.args.own) (task_of c.args.count) {now = string_bytes c.push-str.new.self} _ _ _
-    c.loop-number-test.true c.loop-number.invariant c.in-ok-task-row.ensures c.deref.ensures c.in-ok-push-str.ensures.bytes
+    each_more (task_row c.args.own) (task_of c.args.count) {now = string_bytes c.push_str.new.self} _ _ _
+    c.loop-number-test.true c.loop-number.invariant c.in_ok-task_row.ensures c.deref.ensures c.in_ok-push_str.ensures.bytes
 
 pub returns : goal.returns
 returns c = search (rules, take_all)

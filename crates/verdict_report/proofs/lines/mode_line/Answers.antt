@@ -6,5 +6,5 @@ use Rattle.verdict_report.proofs.lines.mode_line.Goals as goal
 pub returns : goal.returns
 unfolding mode_line
 returns c =
-    let time = c.in-ok-time.ensures in
+    let time = c.in_ok-time.ensures in
     IfOk-weaker c.format.result _ _ (λ s e. cc) c.format.ensures.ok

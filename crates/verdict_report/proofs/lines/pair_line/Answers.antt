@@ -6,6 +6,6 @@ use Rattle.verdict_report.proofs.lines.pair_line.Goals as goal
 pub returns : goal.returns
 unfolding pair_line
 returns c =
-    let least = c.in-ok-least.ensures in
-    let margin = c.in-ok-margin.ensures in
+    let least = c.in_ok-least.ensures in
+    let margin = c.in_ok-margin.ensures in
     IfOk-weaker c.format.result _ _ (λ s e. cc) c.format.ensures.ok

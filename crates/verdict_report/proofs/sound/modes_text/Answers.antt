@@ -7,5 +7,5 @@ use Rattle.verdict_report.proofs.sound.modes_text.Goals as goal
 
 pub loop-mode-preserved : goal.loop-mode-preserved
 loop-mode-preserved c =
-    parts_put (mode_text (plan_of c.args.plan.now.draft.plan)) c.loop-mode.mode {now = string_bytes c.push-str.new.self}
-    c.loop-mode.invariant (c.deref.ensures ∙ c.in-ok-mode-text.ensures) c.in-ok-push-str.ensures.bytes
+    parts_put (mode_text (plan_of c.args.plan.now.draft.plan)) c.loop-mode.mode {now = string_bytes c.push_str.new.self}
+    c.loop-mode.invariant (c.deref.ensures ∙ c.in_ok-mode_text.ensures) c.in_ok-push_str.ensures.bytes

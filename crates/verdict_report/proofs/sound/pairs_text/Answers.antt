@@ -7,5 +7,5 @@ use Rattle.verdict_report.proofs.sound.pairs_text.Goals as goal
 
 pub loop-new-preserved : goal.loop-new-preserved
 loop-new-preserved c =
-    parts_put (changeover_text (plan_of c.args.plan.now.draft.plan) c.args.old) c.loop-new.new {now = string_bytes c.push-str.new.self}
-    c.loop-new.invariant (c.deref.ensures ∙ c.in-ok-changeover-text.ensures) c.in-ok-push-str.ensures.bytes
+    parts_put (changeover_text (plan_of c.args.plan.now.draft.plan) c.args.old) c.loop-new.new {now = string_bytes c.push_str.new.self}
+    c.loop-new.invariant (c.deref.ensures ∙ c.in_ok-changeover_text.ensures) c.in_ok-push_str.ensures.bytes

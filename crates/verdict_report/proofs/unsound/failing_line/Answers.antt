@@ -9,8 +9,8 @@ pub returns : goal.returns
 unfolding failing_line
 returns c =
     let u = c.args.unsound.now in
-    let bound = c.in-ok-bound.ensures in
-    let deadline = c.in-ok-deadline.ensures ∙ ap ticks c.from.ensures in
+    let bound = c.in_ok-bound.ensures in
+    let deadline = c.in_ok-deadline.ensures ∙ ap ticks c.from.ensures in
     IfOk-weaker c.format.result _ _ (λ s e. e ∙ (λ i.
     line (codes "from mode " ∷ decimal u.old ∷ codes " to mode " ∷ decimal u.new ∷ codes ": at most " ∷ bound i ∷ codes ", and the enabling deadline of task " ∷ decimal u.task ∷ codes " is " ∷ deadline i ∷ [])))
     c.format.ensures.ok

@@ -21,8 +21,8 @@ below c =
     let bit : c.bit.result < 2 = rw c.bit.ensures (bit_below c.args.self.now.bytes.now c.loop-at.at (omega (arith, room))) in
     rw (pow_next c.args.self.now.at c.loop-at.at c.loop-at.auto.at) (omega (arith, c.loop-at.invariant.1))
 
-pub overflow-add-value : goal.overflow-add-value
-overflow-add-value c =
+pub overflow_add-value : goal.overflow_add-value
+overflow_add-value c =
     let near : c.loop-at.at + 1 - c.args.self.now.at ≤ 16 = omega arith in
     record { fits = omega (arith, below c, pow_mono near) }
 

@@ -5,7 +5,7 @@ use Rattle.plan.specs.Plan.{Within}
 use Rattle.plan.proofs.LeastWithin.{least_within}
 use Rattle.plan.proofs.draft.Draft.least.Goals as goal
 
-pub invariant-of-result : goal.invariant-of-result
-invariant-of-result c =
+pub invariant_of-result : goal.invariant_of-result
+invariant_of-result c =
     let is = c.least.ensures in
     (∣ subst (λ p. Within (plan_of p)) (sym is) least_within ∣₁, (ap (λ p. plan_table (plan_of p)) is ∙ sym is, tt))

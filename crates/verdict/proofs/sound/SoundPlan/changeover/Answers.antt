@@ -9,9 +9,9 @@ pub returns : goal.returns
 returns c =
     let plan = c.args.self.now in
     let p = plan_of plan.draft.plan in
-    let pair = pair_from p c.args.old c.args.new (sym c.if-not-has-pair.ensures) in
+    let pair = pair_from p c.args.old c.args.new (sym c.if-not-has_pair.ensures) in
     let meets = meets_earliest p (some_tasks plan.draft) plan.sound c.args.old c.args.new pair in
     record {
       value = search rules;
-      sound = omega (arith, meets, ap (λ r. r.0) c.judge-pair.ensures, ap (λ r. r.1) c.judge-pair.ensures);
+      sound = omega (arith, meets, ap (λ r. r.0) c.judge_pair.ensures, ap (λ r. r.1) c.judge_pair.ensures);
     }
