@@ -12,12 +12,12 @@ use Rattle.rules.proofs.codes.rule_codes.Goals as goal
 
 pub bounds-codes-number : goal.bounds-codes-number
 bounds-codes-number c =
-    let few : length c.first_modes.result.now ≤ most_modes = search (rules, length-take) in
+    let few : length c.first-modes.result.now ≤ most_modes = search (rules, length-take) in
     omega arith
 
 pub loop-number-preserved : goal.loop-number-preserved
 loop-number-preserved c =
-    let modes = c.first_modes.result.now in
+    let modes = c.first-modes.result.now in
     let number = c.loop-number.number in
     let few : length modes ≤ most_modes = search (rules, length-take) in
     let so_far = map (λ m. Some m.rule) (take number modes) in
@@ -30,7 +30,7 @@ loop-number-preserved c =
 pub returns : goal.returns
 returns c =
     let t = c.args.plan.now in
-    let modes = c.first_modes.result.now in
+    let modes = c.first-modes.result.now in
     let counted : modes ≡ take t.count t.modes = search rules in
     let all = take_all c.loop-number.number modes c.loop-number-test.false in
     let held = map-map (λ m. Some m.rule) (mode_of t.count) (take t.count t.modes) in
