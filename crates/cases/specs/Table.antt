@@ -1,6 +1,6 @@
 -- The worked examples, one row each. Assumes nothing.
 use Rattle.std.specs.Prelude.{◌≡◌, ℕ, List, [], ◌∷◌, ◌++◌, map, length, Some, None, Ok, Err, Option, Result}
-use Rattle.std.specs.List.{range_with_len, AllByRecursion as All}
+use Rattle.std.specs.List.{range_with_len, AllByRecursion}
 use Rattle.fields.specs.Faults.{Told, none}
 use Rattle.plan.specs.Decode.{decode}
 use Rattle.plan.specs.Plan.{Plan}
@@ -77,4 +77,4 @@ rows =
 
 -- every row holds
 abbrev pub Facts : Type 0
-Facts = All Holds rows
+Facts = AllByRecursion Holds rows

@@ -1,6 +1,6 @@
 -- How many of several values go before one. Assumes nothing.
 use Rattle.std.proofs.Common.{◌≡◌, ℕ, ◌<◌, ◌≤◌, Bool, true, false, cond, List, length, get_or, mul-zero, arith}
-use Rattle.std.specs.List.{AllByRecursion as All}
+use Rattle.std.specs.List.{AllByRecursion}
 use Rattle.std.proofs.ByRecursion.{all_from_every, All-weaker, sum_by_le}
 use Rattle.std.proofs.lemmas.List.Sums.{get_or-le-sum_by}
 use Rattle.ordering.specs.First.{rank}
@@ -10,7 +10,7 @@ module _ {A : Type 0} (before : A → A → Bool) (xs : List A) (x : A) where
   pub rank_none : ((k : ℕ) (d : A) → k < length xs → before (get_or xs k d) x ≡ false) → rank before xs x ≡ 0
   unfolding rank
   rank_none none =
-      let each : All (λ y. before y x ≡ false) xs = all_from_every (λ y. before y x ≡ false) xs (λ k d low high. none k d high) in
+      let each : AllByRecursion (λ y. before y x ≡ false) xs = all_from_every (λ y. before y x ≡ false) xs (λ k d low high. none k d high) in
       let few = sum_by_le (λ y. cond (before y x) 1 0) 0 xs (All-weaker (λ y. before y x ≡ false) (λ y. cond (before y x) 1 0 ≤ 0) (λ y e. rw e (omega arith)) xs each) in
       omega (arith, few, mul-zero (length xs))
 
