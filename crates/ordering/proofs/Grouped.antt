@@ -1,6 +1,6 @@
 -- Orders that go first by a key, and then by an order chosen by that key, are strict total orders. Assumes nothing.
 use Rattle.std.proofs.Common.{◌≡◌, ℕ, Bool, true, false, ◌||◌, eqb, ◌≢◌, sym, refl, ap, ◌∙◌, subst, inl, inr, arith}
-use Rattle.std.proofs.lemmas.Bool.{both_ways, cases_eq}
+use Rattle.std.proofs.lemmas.Bool.{cases_eq}
 use Rattle.std.proofs.lemmas.Bool.Decides.{nat_tests}
 use Rattle.ordering.specs.Strict.{Strict}
 use Rattle.ordering.specs.Groups.{ascending, descending, by_group}

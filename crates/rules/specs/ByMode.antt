@@ -43,6 +43,6 @@ pub record GoesByMode (p : Plan) (first second third : Seat) (before : Job → J
   pub by_none : (a b : Job) → a.mode ≡ b.mode → (HasCode p a.mode first → ⊥) → (HasCode p a.mode second → ⊥) → (HasCode p a.mode third → ⊥) → before a b ≡ third.order a b
   pub not_in_plan : (a b : Job) → a.mode ≡ b.mode → length p.modes ≤ a.mode → before a b ≡ third.order a b
 
--- with these codes by_mode goes by the modes of the plan, whatever rules are in the seats
+-- with these codes by-mode goes by the modes of the plan, whatever rules are in the seats
 abbrev pub CodesOf : Plan → List (Option ℕ) → Type 0
 CodesOf p codes = (first second third : Seat) → GoesByMode p first second third (by_mode first second third codes)

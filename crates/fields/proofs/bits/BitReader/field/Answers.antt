@@ -2,7 +2,6 @@ use Rattle.std.proofs.Common.{◌≡◌, ℕ, ◌+◌, List, Ok, Err, Option, sy
 use Rattle.fields.specs.declared.fault.Refusal.TheVariants.{Ended, OutOfRange}
 use Rattle.fields.specs.Bits.{bits, taken}
 use Rattle.fields.specs.Faults.{told}
-use Rattle.fields.specs.Layout.{width}
 use Rattle.fields.proofs.FieldReads.{inside, reads_none, reads_outside, reads_inside}
 use Rattle.fields.proofs.bits.BitReader.field.Goals as goal
 

@@ -1,5 +1,4 @@
 use Rattle.std.proofs.Common.{sym, ap, ◌∙◌, subst}
-use Rattle.plan.specs.Builtin.{least}
 use Rattle.plan.specs.Held.{plan_of, plan_table}
 use Rattle.plan.specs.Plan.{Within}
 use Rattle.plan.proofs.LeastWithin.{least_within}
