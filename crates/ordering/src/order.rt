@@ -10,5 +10,6 @@ pub trait Order<T> {
     fn goes_before(&self, a: &T, b: &T) -> bool
         ensures { result ≡ before self.now a.now b.now };
 
+    // The law, which each impl proves: this test is a strict total order.
     ghost strict: { (order : Self) → Strict (before order) };
 }

@@ -16,7 +16,7 @@ pub struct LatestFirst;
 impl Order<Job> for LatestFirst {
     ghost before = { λ _. latest_first };
 
-    ghost strict = { λ order. by_group_strict _ (λ job. job.release) (λ _. file_rank) descending_strict (λ _. file_rank_strict) };
+    ghost strict = { λ _. by_group_strict _ (λ job. job.release) (λ _. file_rank) descending_strict (λ _. file_rank_strict) };
 
     fn goes_before(&self, a: &Job, b: &Job) -> bool {
         a.release > b.release || (a.release == b.release && FileRank.goes_before(a, b))

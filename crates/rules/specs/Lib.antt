@@ -1,5 +1,4 @@
 pub mod Orders
 pub mod ByMode
-pub mod Seats
-pub mod CodesHeld
+pub mod ByModeStrict
 pub mod Lawful

@@ -3,7 +3,7 @@ ghost use Rattle.std.specs.Prelude.{◌≡◌, None, slice_index_or};
 ghost use Rattle.plan.specs.Held.{plan_of};
 ghost use Rattle.rules.specs.ByMode.{seated, rule_codes, by_mode, CodesOf};
 ghost use Rattle.rules.specs.Orders.{by_mode_code};
-ghost use Rattle.rules.specs.Seats.{by_mode_strict};
+ghost use Rattle.rules.specs.ByModeStrict.{by_mode_strict};
 
 use crate::codes::rule_codes;
 use crate::jobs::Job;

@@ -13,7 +13,7 @@ pub struct DeadlineMonotonic;
 impl Order<Job> for DeadlineMonotonic {
     ghost before = { λ _. deadline_monotonic };
 
-    ghost strict = { λ order. deadline_monotonic_strict };
+    ghost strict = { λ _. deadline_monotonic_strict };
 
     fn goes_before(&self, a: &Job, b: &Job) -> bool {
         (a.deadline, a.task, a.release, a.mode) < (b.deadline, b.task, b.release, b.mode)
@@ -37,7 +37,7 @@ pub struct EarliestDeadline;
 impl Order<Job> for EarliestDeadline {
     ghost before = { λ _. earliest_deadline };
 
-    ghost strict = { λ order. earliest_deadline_strict };
+    ghost strict = { λ _. earliest_deadline_strict };
 
     fn goes_before(&self, a: &Job, b: &Job) -> bool {
         (a.due(), a.task, a.release, a.mode) < (b.due(), b.task, b.release, b.mode)
@@ -61,7 +61,7 @@ pub struct FileRank;
 impl Order<Job> for FileRank {
     ghost before = { λ _. file_rank };
 
-    ghost strict = { λ order. file_rank_strict };
+    ghost strict = { λ _. file_rank_strict };
 
     fn goes_before(&self, a: &Job, b: &Job) -> bool {
         (a.task, a.release, a.mode, a.deadline) < (b.task, b.release, b.mode, b.deadline)

@@ -9,7 +9,7 @@ use Rattle.verdict.specs.Bound.{bound_of}
 use Rattle.verdict.specs.Enabling.{tasks_in, earliest}
 use Rattle.verdict.specs.Sound.{Passes, Pair, EveryPairPasses, FirstFailing, Judged}
 use Rattle.verdict.specs.Verdict.{Told, passes, pair_told, failing, failing_from, failing_before, verdict}
-use Rattle.verdict.specs.Earliest.{Least, earliest_least}
+use Rattle.verdict.proofs.Earliest.{Least, earliest_least}
 use Rattle.verdict.proofs.Limits.{some_tasks}
 use Rattle.verdict.proofs.Told.{told_none_of, told_some_of, pass_of_none, failure_of_some}
 

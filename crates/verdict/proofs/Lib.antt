@@ -1,5 +1,6 @@
 pub mod Limits
 pub mod Works
 pub mod Longest
+pub mod Earliest
 pub mod Told
 pub mod Judge

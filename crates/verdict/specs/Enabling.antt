@@ -1,5 +1,5 @@
 -- The enabling deadlines of a changeover, and the least of them. Assumes nothing.
-use Rattle.std.specs.Prelude.{ℕ, List, [], ◌∷◌, map, length, get_or, slice_index, slice_index_or}
+use Rattle.std.specs.Prelude.{ℕ, List, [], ◌∷◌, map, length, slice_index, slice_index_or}
 use Rattle.std.specs.List.{range_with_len}
 use Rattle.std.specs.Option.{unwrap_or}
 use Rattle.ordering.specs.First.{first}
@@ -13,7 +13,7 @@ tasks_in p j = length (mode_at p j).tasks
 
 -- the enabling deadline of task k, of these, when mode i is left
 abbrev pub deadline_of : ℕ → List Task → ℕ → ℕ
-deadline_of i ts k = slice_index (get_or ts k no_task).enabling i
+deadline_of i ts k = slice_index (slice_index_or ts k no_task).enabling i
 
 -- E(i, j, k), the enabling deadline of task k of mode j when mode i is left
 abbrev pub enabling : Plan → ℕ → ℕ → ℕ → ℕ

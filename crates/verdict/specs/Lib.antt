@@ -3,4 +3,4 @@ pub mod Enabling
 pub mod Verdict
 pub mod Sound
 pub mod Answers
-pub mod Earliest
+pub mod EarlierFirst

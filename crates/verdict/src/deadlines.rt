@@ -4,7 +4,7 @@ ghost use Rattle.ordering.specs.Keys.{by_keys};
 ghost use Rattle.plan.specs.Held.{task_of, plan_of};
 ghost use Rattle.plan.specs.Sizes.{most_modes, most_tasks};
 ghost use Rattle.verdict.specs.Enabling.{deadlines, deadline_keys, earliest};
-ghost use Rattle.verdict.specs.Earliest.{deadlines_strict};
+ghost use Rattle.verdict.specs.EarlierFirst.{deadlines_strict};
 
 use crate::tasks::tasks_of;
 use fields::first;
@@ -25,7 +25,7 @@ struct ByDeadline;
 impl Order<Deadline> for ByDeadline {
     ghost before = { λ _. by_keys deadline_keys };
 
-    ghost strict = { λ order. deadlines_strict };
+    ghost strict = { λ _. deadlines_strict };
 
     fn goes_before(&self, a: &Deadline, b: &Deadline) -> bool {
         a.ticks < b.ticks || (a.ticks == b.ticks && a.task < b.task)

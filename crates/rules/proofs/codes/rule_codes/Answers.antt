@@ -7,7 +7,7 @@ use Rattle.plan.specs.Held.{padded, mode_of, plan_of}
 use Rattle.plan.specs.Sizes.{most_modes}
 use Rattle.plan.proofs.Loops.{padded_more}
 use Rattle.rules.specs.ByMode.{rule_codes, CodesOf}
-use Rattle.rules.specs.Seats.{goes_by_mode}
+use Rattle.rules.proofs.Seats.{goes_by_mode}
 use Rattle.rules.proofs.codes.rule_codes.Goals as goal
 
 pub bounds-codes-number : goal.bounds-codes-number

@@ -4,7 +4,7 @@ use Rattle.std.specs.List.{range_with_len}
 use Rattle.std.proofs.lemmas.List.{length-map, length-set}
 use Rattle.plan.specs.Held.{task_of}
 use Rattle.verdict.specs.Enabling.{task_deadline}
-use Rattle.verdict.specs.Earliest.{deadlines_more}
+use Rattle.verdict.proofs.Earliest.{deadlines_more}
 use Rattle.verdict.proofs.deadlines.deadlines_of.Goals as goal
 
 pub loop-number-init : goal.loop-number-init

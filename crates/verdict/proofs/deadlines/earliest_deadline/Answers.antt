@@ -6,7 +6,7 @@ use Rattle.ordering.specs.Keys.{by_keys}
 use Rattle.plan.specs.Held.{plan_of}
 use Rattle.plan.specs.Plan.{mode_at}
 use Rattle.verdict.specs.Enabling.{deadlines, deadline_keys, no_deadline}
-use Rattle.verdict.specs.Earliest.{earliest_at}
+use Rattle.verdict.proofs.Earliest.{earliest_at}
 use Rattle.verdict.proofs.Limits.{few_modes}
 use Rattle.verdict.proofs.deadlines.earliest_deadline.Goals as goal
 

@@ -8,8 +8,6 @@ use Rattle.std.proofs.lemmas.List.{get_or-map, get_or-take, take_more_set}
 use Rattle.std.specs.Option.{unwrap_or}
 use Rattle.std.proofs.lemmas.Bool.{cases_eq}
 use Rattle.std.proofs.lemmas.Bool.Decides.{nat_tests}
-use Rattle.ordering.specs.Strict.{Strict}
-use Rattle.ordering.proofs.Keyed.{key_at, by_keys_strict}
 use Rattle.ordering.proofs.Firsts.{goes_first}
 use Rattle.ordering.specs.First.{first, Leads, GoesFirst}
 use Rattle.ordering.specs.Keys.{by_keys}
@@ -17,6 +15,7 @@ use Rattle.plan.specs.declared.tables.Task.{Task as TaskTable}
 use Rattle.plan.specs.Held.{task_of}
 use Rattle.plan.specs.Plan.{Task, no_task}
 use Rattle.verdict.specs.declared.deadlines.Deadline.{Deadline}
+use Rattle.verdict.specs.EarlierFirst.{deadlines_strict}
 use Rattle.verdict.specs.Enabling.{deadline_of, task_deadline, deadlines, deadline_keys, no_deadline, earliest_of}
 
 module _ (modes i : ℕ) (is_mode : i < modes) (tasks : List TaskTable) where
@@ -36,13 +35,6 @@ module _ (modes i : ℕ) (is_mode : i < modes) (tasks : List TaskTable) where
 pub earliest_at : (ds : List Deadline) (place : ℕ) → Some place ≡ first (by_keys deadline_keys) ds → slice_index_or ds place no_deadline ≡ earliest_of ds
 unfolding earliest_of
 earliest_at ds place found = ap (λ o. get_or ds (unwrap_or o 0) no_deadline) found
-
--- ticks and task determine a deadline
-pub deadlines_strict : Strict (by_keys deadline_keys)
-deadlines_strict = by_keys_strict deadline_keys (λ a b same.
-    let ticks = key_at 0 same in
-    let task = key_at 1 same in
-    λ i. record { ticks = ticks i; task = task i })
 
 -- the least enabling deadline of some tasks when mode i is left, with the lowest task that has it
 pub record Least (i : ℕ) (ts : List Task) (e : Deadline) : Type 0 where

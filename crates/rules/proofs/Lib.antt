@@ -1,0 +1,2 @@
+pub mod CodesHeld
+pub mod Seats
