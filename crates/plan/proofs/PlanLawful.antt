@@ -35,21 +35,21 @@ task_lawful : (n j k : ℕ) → Lawful (task_layout n j k) (TaskWithin n j)
 unfolding task_layout
 task_lawful n j k =
     part_lawful (λ t. t.cost) _ (TaskWithin n j) (field_lawful Cost j k 1 4095 (lit< tt)) (λ t w. (w.0, w.1)) (λ c in_c.
-    part_lawful (λ t. t.deadline) _ _ (field_lawful Deadline j k c 65535 (lit< tt)) (λ t w. (omega arith, omega arith)) (λ d in-d.
-    part_lawful (λ t. t.separation) _ _ (field_lawful Separation j k d 65535 (lit< tt)) (λ t w. (omega arith, omega arith)) (λ s in-s.
-    part_lawful (λ t. t.enabling) _ _ (enablings_lawful n j k) (λ t w. let all = w.0.0.0 in (all.5, all.6, all.7)) (λ es in-es.
+    part_lawful (λ t. t.deadline) _ _ (field_lawful Deadline j k c 65535 (lit< tt)) (λ t w. (omega arith, omega arith)) (λ d in_d.
+    part_lawful (λ t. t.separation) _ _ (field_lawful Separation j k d 65535 (lit< tt)) (λ t w. (omega arith, omega arith)) (λ s in_s.
+    part_lawful (λ t. t.enabling) _ _ (enablings_lawful n j k) (λ t w. let all = w.0.0.0 in (all.5, all.6, all.7)) (λ es in_es.
     whole_lawful (record { cost = c; deadline = d; separation = s; enabling = es }) _
-    (((((in_c.0, in_c.1, in-d.0, in-s.0, in-s.1, in-es.0, in-es.1, in-es.2), refl), refl), refl), refl)
+    (((((in_c.0, in_c.1, in_d.0, in_s.0, in_s.1, in_es.0, in_es.1, in_es.2), refl), refl), refl), refl)
     (λ t w i. record { cost = w.0.0.0.1 i; deadline = w.0.0.1 i; separation = w.0.1 i; enabling = w.1 i })))))
 
 mode_lawful : (n j : ℕ) → Lawful (mode_layout n j) (ModeWithin n j)
 unfolding mode_layout
 mode_lawful n j =
-    part_lawful (λ m. m.rule) _ (ModeWithin n j) (field_lawful Rule j none 0 2 (lit< tt)) (λ m w. (omega arith, w.0)) (λ r in-r.
-    part_lawful (λ m. length m.tasks - 1) _ _ (field_lawful Tasks j none 0 15 (lit< tt)) (λ m w. (omega arith, omega arith)) (λ last in-last.
-    part_lawful (λ m. m.tasks) _ _ (each_lawful (λ k. TaskWithin n j) (task_lawful n j) (last + 1) no_task) (λ m w. (omega arith, w.0.0.3)) (λ ts in-ts.
+    part_lawful (λ m. m.rule) _ (ModeWithin n j) (field_lawful Rule j none 0 2 (lit< tt)) (λ m w. (omega arith, w.0)) (λ r in_r.
+    part_lawful (λ m. length m.tasks - 1) _ _ (field_lawful Tasks j none 0 15 (lit< tt)) (λ m w. (omega arith, omega arith)) (λ last in_last.
+    part_lawful (λ m. m.tasks) _ _ (each_lawful (λ k. TaskWithin n j) (task_lawful n j) (last + 1) no_task) (λ m w. (omega arith, w.0.0.3)) (λ ts in_ts.
     whole_lawful (record { rule = r; tasks = ts }) _
-    ((((in-r.1, omega arith, omega arith, in-ts.1), refl), omega arith), refl)
+    ((((in_r.1, omega arith, omega arith, in_ts.1), refl), omega arith), refl)
     (λ m w i. record { rule = w.0.0.1 i; tasks = w.1 i }))))
 
 -- the limits of the modes of a plan of n modes
@@ -59,11 +59,11 @@ ModesWithin n ms = (j : ℕ) → j < length ms → ModeWithin n j (get_or ms j n
 pub plan_lawful : Lawful plan_layout Within
 unfolding plan_layout
 plan_lawful =
-    part_lawful (λ p. p.processors - 1) _ Within (field_lawful Processors none none 0 7 (lit< tt)) (λ p w. (omega arith, omega arith)) (λ m in-m.
-    part_lawful (λ p. length p.modes - 1) _ _ (field_lawful Modes none none 0 7 (lit< tt)) (λ p w. (omega arith, omega arith)) (λ last in-last.
-    part_lawful (λ p. p.start) _ _ (field_lawful Start none none 0 last (omega arith)) (λ p w. (omega arith, omega arith)) (λ s in-s.
+    part_lawful (λ p. p.processors - 1) _ Within (field_lawful Processors none none 0 7 (lit< tt)) (λ p w. (omega arith, omega arith)) (λ m in_m.
+    part_lawful (λ p. length p.modes - 1) _ _ (field_lawful Modes none none 0 7 (lit< tt)) (λ p w. (omega arith, omega arith)) (λ last in_last.
+    part_lawful (λ p. p.start) _ _ (field_lawful Start none none 0 last (omega arith)) (λ p w. (omega arith, omega arith)) (λ s in_s.
     part_lawful (λ p. p.modes) _ _ (each_lawful (ModeWithin (last + 1)) (mode_lawful (last + 1)) (last + 1) no_mode)
-    (λ p w. let count : length p.modes ≡ last + 1 = omega arith in (count, subst (λ n. ModesWithin n p.modes) count w.0.0.0.5)) (λ ms in-ms.
+    (λ p w. let count : length p.modes ≡ last + 1 = omega arith in (count, subst (λ n. ModesWithin n p.modes) count w.0.0.0.5)) (λ ms in_ms.
     whole_lawful (record { processors = m + 1; start = s; modes = ms }) _
-    (((((omega arith, omega arith, omega arith, omega arith, omega arith, subst (λ n. ModesWithin n ms) (sym in-ms.0) in-ms.1), omega arith), omega arith), refl), refl)
+    (((((omega arith, omega arith, omega arith, omega arith, omega arith, subst (λ n. ModesWithin n ms) (sym in_ms.0) in_ms.1), omega arith), omega arith), refl), refl)
     (λ p w. let some : p.processors ≡ m + 1 = omega arith in λ i. record { processors = some i; start = w.0.1 i; modes = w.1 i })))))

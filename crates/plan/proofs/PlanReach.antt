@@ -34,7 +34,7 @@ module _ {cut n j : ℕ} (few : n ≤ 8) (is_mode : j < n) where
   mode_reach {from} fits before =
       part_reach (λ m. m.rule) (field_reach Rule j none 0 2 (omega arith)) (λ r _.
       part_reach (λ m. length m.tasks - 1) (field_reach Tasks j none 0 15 (omega arith)) (λ last most.
-      part_reach (λ m. m.tasks) (each_reach (last + 1) (λ k. from + 6 + 156 * k) (λ k in-mode. task_reach k (omega arith) (omega arith)) (omega arith)) (λ ts _.
+      part_reach (λ m. m.tasks) (each_reach (last + 1) (λ k. from + 6 + 156 * k) (λ k in_mode. task_reach k (omega arith) (omega arith)) (omega arith)) (λ ts _.
       whole_reach (record { rule = r; tasks = ts }) tt (omega arith))))
 
 pub plan_reach : {cut : ℕ} → 20025 ≤ cut → Reach cut plan_layout Any 0 20025
