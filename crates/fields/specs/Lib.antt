@@ -3,3 +3,4 @@ pub mod Padding
 pub mod Faults
 pub mod Layout
 pub mod Readers
+pub mod Line

@@ -1,8 +1,10 @@
 // The tables of a plan, as a board holds them: fixed arrays with counts.
 // Places past a count hold zeros, so that equal plans are equal tables.
-ghost use Rattle.std.specs.Prelude.{◌≡◌};
+ghost use Rattle.std.specs.Prelude.{◌≡◌, take};
 ghost use Rattle.plan.specs.Held.{plan_table};
 ghost use Rattle.plan.specs.Builtin.{least};
+
+use fields::first;
 
 // The most processors of a board, the most modes of a plan, and the most tasks of a mode.
 pub const PROCESSORS: usize = 8;
@@ -66,6 +68,13 @@ impl Mode {
         count: 0,
         tasks: [Task::BLANK; TASKS],
     };
+
+    // The tasks that it counts.
+    pub fn tasks(&self) -> &[Task]
+        ensures { result.now ≡ take self.now.count self.now.tasks }
+    {
+        first(&self.tasks, usize::from(self.count))
+    }
 }
 
 // A plan: processors, the mode that a board begins in, and the first `count` modes.
@@ -78,6 +87,13 @@ pub struct Plan {
 }
 
 impl Plan {
+    // The modes that it counts.
+    pub fn modes(&self) -> &[Mode]
+        ensures { result.now ≡ take self.now.count self.now.modes }
+    {
+        first(&self.modes, usize::from(self.count))
+    }
+
     // The least plan there is: one processor, one mode, and one task that runs for a tick.
     pub(crate) fn least() -> Plan
         ensures { result ≡ plan_table least }

@@ -1,7 +1,7 @@
 -- The text of a refused file: why it is refused, and where. Assumes nothing.
 use Rattle.std.specs.Prelude.{ℕ, ◌-◌, cond, List, [], ◌∷◌, ◌++◌, codes, decimal, ◌==◌, slice_index_or}
 use Rattle.fields.specs.Faults.{Told, none}
-use Rattle.report.specs.Line.{line}
+use Rattle.fields.specs.Line.{line}
 
 -- the refusals in words, from number 1 on
 unfoldable pub refusal_words : ℕ → List ℕ

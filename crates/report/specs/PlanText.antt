@@ -2,7 +2,7 @@
 use Rattle.std.specs.Prelude.{ℕ, ◌+◌, ◌-◌, List, [], ◌∷◌, ◌++◌, length, codes, decimal}
 use Rattle.std.specs.List.{remove, range_with_len, flat_map, repeat}
 use Rattle.plan.specs.Plan.{Task, Mode, Plan}
-use Rattle.report.specs.Line.{line}
+use Rattle.fields.specs.Line.{line}
 
 -- a cell of a table: a text, right-aligned in 6 columns
 abbrev pub cell : List ℕ → List ℕ

@@ -2,7 +2,7 @@
 use Rattle.std.specs.Prelude.{ℕ, ◌-◌, ◌*◌, cond, List, [], ◌∷◌, ◌++◌, length, Some, None, codes, decimal, Option, ◌==◌}
 use Rattle.std.specs.List.{range_with_len, flat_map}
 use Rattle.plan.specs.Plan.{Plan}
-use Rattle.report.specs.Line.{line}
+use Rattle.fields.specs.Line.{line}
 use Rattle.verdict.specs.Answers.{changeover}
 use Rattle.verdict.specs.Bound.{bound_of}
 use Rattle.verdict.specs.Verdict.{Told, verdict}

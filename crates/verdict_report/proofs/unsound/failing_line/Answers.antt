@@ -1,7 +1,7 @@
 -- The format writes the pieces of the line.
 use Rattle.std.proofs.Common.{[], ◌∷◌, codes, decimal, ap, ◌∙◌}
 use Rattle.std.proofs.lemmas.Result.{IfOk-weaker}
-use Rattle.report.specs.Line.{line}
+use Rattle.fields.specs.Line.{line}
 use Rattle.verdict_report.specs.VerdictText.{ticks, failing_line}
 use Rattle.verdict_report.proofs.unsound.failing_line.Goals as goal
 
