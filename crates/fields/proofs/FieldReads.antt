@@ -1,5 +1,5 @@
 -- What a field reads: a number within its limits, or why not. Assumes nothing.
-use Rattle.std.proofs.Common.{◌≡◌, ℕ, ◌+◌, ◌≤◌, true, false, ◌&&◌, leb, List, Some, None, Ok, Err, ap, ◌∙◌}
+use Rattle.std.proofs.Common.{◌≡◌, ℕ, ◌+◌, ◌≤◌, true, false, ◌&&◌, leb, List, Some, None, Option, Ok, Err, ap, ◌∙◌}
 use Rattle.std.proofs.lemmas.Bool.{cond-true, cond-false, leb-true, and_parts}
 use Rattle.fields.specs.declared.fault.Refusal.TheVariants.{Ended, OutOfRange}
 use Rattle.fields.specs.declared.fault.Field.{Field}
@@ -7,7 +7,7 @@ use Rattle.fields.specs.Bits.{taken}
 use Rattle.fields.specs.Faults.{told}
 use Rattle.fields.specs.Layout.{field, width, judged}
 
-module _ (f : Field) (mode task least most : ℕ) (bs : List ℕ) (at : ℕ) where
+module _ (f : Field) (mode task : Option ℕ) (least most : ℕ) (bs : List ℕ) (at : ℕ) where
   pub reads_none : taken (width f) bs at ≡ None → (field f mode task least most).read bs at ≡ Err (told Ended f mode task at)
   unfolding field
   reads_none e = ap (judged f mode task least most at) e

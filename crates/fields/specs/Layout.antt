@@ -31,12 +31,12 @@ width Enabling = 16
 width Padding = 0
 
 -- what is read of a number that is to lie between a least and a greatest value
-abbrev pub judged : Field → ℕ → ℕ → ℕ → ℕ → ℕ → Option ℕ → Reading ℕ
+abbrev pub judged : Field → Option ℕ → Option ℕ → ℕ → ℕ → ℕ → Option ℕ → Reading ℕ
 judged f mode task least most at None = Err (told Ended f mode task at)
 judged f mode task least most at (Some n) = cond (nat_le least n && nat_le n most) (Ok (n, at + width f)) (Err (told OutOfRange f mode task at))
 
--- a number in a field of a mode and a task
-unfoldable pub field : Field → ℕ → ℕ → ℕ → ℕ → Layout ℕ
+-- a number in a field of a mode and a task, or of neither
+unfoldable pub field : Field → Option ℕ → Option ℕ → ℕ → ℕ → Layout ℕ
 field f mode task least most = record { write = binary (width f); read = λ bs at. judged f mode task least most at (taken (width f) bs at) }
 
 -- a reading, and then another that starts where it ended
@@ -61,10 +61,10 @@ write_each item i [] = []
 write_each item i (x ∷ xs) = (item i).write x ++ write_each item (i + 1) xs
 
 -- what is read of so many values, from number i on
-unfoldable pub read_each : {A : Type 0} → (ℕ → Layout A) → ℕ → ℕ → List ℕ → ℕ → Reading (List A)
-read_each item i zero bs at = Ok ([], at)
-read_each item i (suc n) bs at = followed ((item i).read bs at) (λ x next. followed (read_each item (i + 1) n bs next) (λ xs end. Ok (x ∷ xs, end)))
+unfoldable pub read_each : {A : Type 0} → (ℕ → List ℕ → ℕ → Reading A) → ℕ → ℕ → List ℕ → ℕ → Reading (List A)
+read_each reading i zero bs at = Ok ([], at)
+read_each reading i (suc n) bs at = followed (reading i bs at) (λ x next. followed (read_each reading (i + 1) n bs next) (λ xs end. Ok (x ∷ xs, end)))
 
 -- so many values, one after the other, where the layout of each may depend on its number
 abbrev pub each : {A : Type 0} → ℕ → (ℕ → Layout A) → Layout (List A)
-each n item = record { write = write_each item 0; read = read_each item 0 n }
+each n item = record { write = write_each item 0; read = read_each (λ i. (item i).read) 0 n }

@@ -4,3 +4,4 @@ pub mod Faults
 pub mod Layout
 pub mod Readers
 pub mod Line
+pub mod FaultText

@@ -1,5 +1,5 @@
 -- What a reader answers, beside what a layout reads. Assumes nothing.
-use Rattle.std.specs.Prelude.{ℕ, Ok, Err, Result}
+use Rattle.std.specs.Prelude.{ℕ, Ok, Err, Option, Result}
 use Rattle.fields.specs.declared.fault.Fault.{Fault}
 use Rattle.fields.specs.declared.fault.FieldFault.{FieldFault}
 use Rattle.fields.specs.Faults.{told, numbers}
@@ -11,7 +11,7 @@ answered (Ok a) at = Ok (a, at)
 answered (Err f) at = Err (numbers f)
 
 -- an answer that does not know its mode and task yet
-abbrev pub located : ℕ → ℕ → Result ℕ FieldFault → ℕ → Reading ℕ
+abbrev pub located : Option ℕ → Option ℕ → Result ℕ FieldFault → ℕ → Reading ℕ
 located mode task (Ok n) at = Ok (n, at)
 located mode task (Err f) at = Err (told f.refusal f.field mode task f.bit)
 

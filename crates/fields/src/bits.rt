@@ -1,16 +1,10 @@
 // A reader of bits over borrowed bytes, the most significant bit of each byte first.
-ghost use Rattle.std.specs.Prelude.{◌≡◌, ◌+◌, ◌*◌, ◌<◌, ◌≤◌, length, take, drop, IfErr, OnOk, ◌==◌, nat_le, slice_index};
-ghost use Rattle.std.specs.Result.{result_ok};
+ghost use Rattle.std.specs.Prelude.{◌≡◌, ◌+◌, ◌*◌, ◌<◌, ◌≤◌, length, take, drop, IfSome, ◌==◌, nat_le, slice_index};
 ghost use Rattle.fields.specs.Bits.{bits, taken};
 ghost use Rattle.fields.specs.Padding.{stray, byte_end};
 
+use crate::fault::{Field, FieldFault, Refusal};
 use crate::fronts::first;
-
-// The input ends before all the bits that were asked for, which begin at this one.
-#[derive(Clone, Copy)]
-pub(crate) struct Short {
-    pub(crate) bit: u32,
-}
 
 // A reader sees at most so many bytes of its input, more than any file of this format has.
 pub const MOST_BYTES: usize = 65536;
@@ -36,13 +30,6 @@ impl<'a> BitReader<'a> {
         }
     }
 
-    // The next bit's number.
-    pub(crate) fn place(&self) -> u32
-        ensures { result ≡ self.now.at }
-    {
-        self.at
-    }
-
     // Whether the input has so many bits.
     fn has(&self, count: u32) -> bool
         ensures { result ≡ nat_le count (8 * length self.now.bytes.now) }
@@ -50,11 +37,15 @@ impl<'a> BitReader<'a> {
         (count as usize).div_ceil(8) <= self.bytes.len()
     }
 
-    // That the input ends within what begins at the next bit.
-    fn short(&self) -> Short
-        ensures { result.bit ≡ self.now.at }
+    // That something is wrong with the field that begins at the next bit.
+    pub(crate) fn fault(&self, refusal: Refusal, field: Field) -> FieldFault
+        ensures { result ≡ record { refusal = refusal; field = field; bit = self.now.at } }
     {
-        Short { bit: self.at }
+        FieldFault {
+            refusal,
+            field,
+            bit: self.at,
+        }
     }
 
     // The bit at `at`.
@@ -73,23 +64,22 @@ impl<'a> BitReader<'a> {
         self.bit(at) == 1
     }
 
-    // The number in the next `width` bits, which the reader does not pass.
-    pub(crate) fn peek(&self, width: u32) -> Result<u16, Short>
+    // The number in the next `width` bits, where the input has so many. The reader does not pass them.
+    pub(crate) fn peek(&self, width: u32) -> Option<u16>
         requires { width ≤ 16 }
-        ensures value { result_ok result ≡ taken width (bits self.now.bytes.now) self.now.at }
-        ensures refused { IfErr result (λ e. e.bit ≡ self.now.at) }
-        ensures room { OnOk result (self.now.at + width ≤ 8 * length self.now.bytes.now) }
+        ensures value { result ≡ taken width (bits self.now.bytes.now) self.now.at }
+        ensures room { IfSome result (λ _. self.now.at + width ≤ 8 * length self.now.bytes.now) }
     {
         let first = self.at;
         let end = first + width;
         if !self.has(end) {
-            return Err(self.short());
+            return None;
         }
         let mut value: u16 = 0;
         for at in first..end {
-            value = value * 2 + self.bit(at) as u16;
+            value = value * 2 + u16::from(self.bit(at));
         }
-        Ok(value)
+        Some(value)
     }
 
     // Passes the next `width` bits.
@@ -106,11 +96,8 @@ impl<'a> BitReader<'a> {
         ensures { result ≡ stray (byte_end self.now.at) (drop self.now.at (bits self.now.bytes.now)) self.now.at }
     {
         let end = self.at.div_ceil(8) * 8;
-        for at in self.at..end {
-            if self.is_set(at) {
-                return Some(at);
-            }
-        }
-        if self.has(end + 1) { Some(end) } else { None }
+        (self.at..end)
+            .find(|at| self.is_set(*at))
+            .or(self.has(end + 1).then_some(end))
     }
 }

@@ -6,9 +6,5 @@ pub fn first<T>(places: &[T], count: usize) -> &[T]
     ensures value { result.now ≡ take count places.now }
     ensures bound { length result.now ≤ count }
 {
-    if places.len() < count {
-        places
-    } else {
-        &places[0..count]
-    }
+    places.get(..count).unwrap_or(places)
 }

@@ -7,5 +7,5 @@ mod fronts;
 mod limits;
 
 pub use bits::{BitReader, MOST_BYTES};
-pub use fault::{Fault, Field, NONE, Refusal};
+pub use fault::{Fault, Field, NONE, Owner, Refusal};
 pub use fronts::first;

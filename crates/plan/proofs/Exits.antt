@@ -1,5 +1,5 @@
 -- What a reader answers where a part of it was refused, and where a part was read. Assumes nothing.
-use Rattle.std.proofs.Common.{◌≡◌, ℕ, List, IsErrAnd, Ok, Err, Result, sym, ap, ◌∙◌, subst, arith}
+use Rattle.std.proofs.Common.{◌≡◌, ℕ, List, IsErrAnd, Ok, Err, Option, Result, sym, ap, ◌∙◌, subst, arith}
 use Rattle.fields.specs.declared.fault.Fault.{Fault}
 use Rattle.fields.specs.Faults.{Told, numbers}
 use Rattle.fields.specs.Bits.{bits}
@@ -41,7 +41,7 @@ pub over_form : {A B : Type 0} (form : A → B) (l : Layout A) (r : Reading B) (
 over_form form l r at same e = subst (λ bytes. r ≡ converted form (l.read (bits bytes) at)) same e
 
 -- the same of a field, where the code has its limits in other words
-pub over_field : (f : Field) (mode task least most : ℕ) (r : Reading ℕ) (at : ℕ) {low high : ℕ} {x y : List ℕ} → low ≡ least → high ≡ most → x ≡ y → r ≡ (field f mode task low high).read (bits x) at → (field f mode task least most).read (bits y) at ≡ r
+pub over_field : (f : Field) (mode task : Option ℕ) (least most : ℕ) (r : Reading ℕ) (at : ℕ) {low high : ℕ} {x y : List ℕ} → low ≡ least → high ≡ most → x ≡ y → r ≡ (field f mode task low high).read (bits x) at → (field f mode task least most).read (bits y) at ≡ r
 over_field f mode task least most r at {low} {high} {x} {y} a b same e =
     let at_limits : (field f mode task least most).read (bits y) at ≡ (field f mode task low high).read (bits y) at = cc in
     at_limits ∙ over (field f mode task low high) r at same e

@@ -69,7 +69,7 @@ taken_from_stands w bs at n end small s =
     let same = ap (number_from_digits 2) digits ∙ number_binary w n small in
     grind (arith, nat_tests)
 
-module _ (f : Field) (mode task least most : ℕ) where
+module _ (f : Field) (mode task : Option ℕ) (least most : ℕ) where
   -- what is judged well is a number within its limits
   pub judged_made : (F : ℕ × ℕ → Type 0) (at : ℕ) (o : Option ℕ) → ((n : ℕ) → o ≡ Some n → (least ≤ n) × (n ≤ most) → F (n, at + width f)) → IfOk (judged f mode task least most at o) F
   judged_made F at None found = tt
@@ -128,15 +128,15 @@ module _ {A : Type 0} (P : ℕ → A → Type 0) (d : A) where
   items_from i (x ∷ xs) p = (p 0 i (omega arith) (omega arith), items_from (i + 1) xs (λ k j h e. p (suc k) j (omega arith) (omega arith)))
 
 module _ {A : Type 0} {item : ℕ → Layout A} (P : ℕ → A → Type 0) (law : (i : ℕ) → Lawful (item i) (P i)) where
-  each_sound : (i n : ℕ) (bs : List ℕ) (at : ℕ) → AllBelowBase 2 bs → at ≤ length bs → IfOk (read_each item i n bs at) (λ r. ((length r.0 ≡ n) × Items P i r.0) × Stands bs at (write_each item i r.0) r.1)
+  each_sound : (i n : ℕ) (bs : List ℕ) (at : ℕ) → AllBelowBase 2 bs → at ≤ length bs → IfOk (read_each (λ j. (item j).read) i n bs at) (λ r. ((length r.0 ≡ n) × Items P i r.0) × Stands bs at (write_each item i r.0) r.1)
   unfolding read_each write_each
   each_sound i zero bs at u h = ((refl, tt), stands_none h)
   each_sound i (suc n) bs at u h =
       followed_made _ _ ((item i).read bs at) _ ((law i).sound bs at u h) (λ x mid p.
-      followed_made _ _ (read_each item (i + 1) n bs mid) _ (each_sound (i + 1) n bs mid u p.1.inside) (λ xs end q.
+      followed_made _ _ (read_each (λ j. (item j).read) (i + 1) n bs mid) _ (each_sound (i + 1) n bs mid u p.1.inside) (λ xs end q.
       ((ap suc q.0.0, (p.0, q.0.1)), stands_append p.1 q.1)))
 
-  each_complete : (i n : ℕ) (bs : List ℕ) (at : ℕ) (xs : List A) (end : ℕ) → (length xs ≡ n) × Items P i xs → Stands bs at (write_each item i xs) end → read_each item i n bs at ≡ Ok (xs, end)
+  each_complete : (i n : ℕ) (bs : List ℕ) (at : ℕ) (xs : List A) (end : ℕ) → (length xs ≡ n) × Items P i xs → Stands bs at (write_each item i xs) end → read_each (λ j. (item j).read) i n bs at ≡ Ok (xs, end)
   unfolding read_each write_each
   each_complete i zero bs at [] end p s = let ends = s.ends ∙ add-zero at in cc
   each_complete i zero bs at (x ∷ xs) end p s = absurd (omega arith)

@@ -1,5 +1,5 @@
 -- Layouts that are read within a reach, so that a file cut off behind it reads the same. Assumes nothing.
-use Rattle.std.proofs.Common.{◌≡◌, ℕ, zero, suc, ◌+◌, ◌-◌, ◌<◌, ◌≤◌, List, ◌∷◌, take, drop, IfOk, Ok, Err, refl, ap, ◌∙◌, arith, length-take}
+use Rattle.std.proofs.Common.{◌≡◌, ℕ, zero, suc, ◌+◌, ◌-◌, ◌<◌, ◌≤◌, List, ◌∷◌, take, drop, IfOk, Ok, Err, Option, refl, ap, ◌∙◌, arith, length-take}
 use Rattle.std.specs.Int.Digits.{number_from_digits}
 use Rattle.std.proofs.lemmas.List.{drop-take, take-take}
 use Rattle.std.proofs.lemmas.Result.{IfOk-weaker}
@@ -32,7 +32,7 @@ Any a = Unit {0}
 pub reach_longer : {A : Type 0} {l : Layout A} {P : A → Type 0} {cut from mid to : ℕ} → mid ≤ to → Reach cut l P from mid → Reach cut l P from to
 reach_longer {l} h reach = record { same = reach.same; ends = λ bs at early. IfOk-weaker (l.read bs at) _ _ (λ r p. (p.0, omega (arith, p.1))) (reach.ends bs at early) }
 
-pub field_reach : {cut from : ℕ} (f : Field) (mode task least most : ℕ) → from + width f ≤ cut → Reach cut (field f mode task least most) (λ n. n ≤ most) from (from + width f)
+pub field_reach : {cut from : ℕ} (f : Field) (mode task : Option ℕ) (least most : ℕ) → from + width f ≤ cut → Reach cut (field f mode task least most) (λ n. n ≤ most) from (from + width f)
 unfolding field
 field_reach {cut} f mode task least most h = record {
   same = λ bs at early. ap (judged f mode task least most at) (taken_cut (width f) at cut bs (omega arith));
@@ -57,7 +57,7 @@ part_reach {cut} of {first} {rest} reach later = record {
 
 -- n items, each read at a bit up to its place
 module _ {A : Type 0} {cut : ℕ} {item : ℕ → Layout A} {P : A → Type 0} (n : ℕ) (place : ℕ → ℕ) (reach : (i : ℕ) → i < n → Reach cut (item i) P (place i) (place (i + 1))) where
-  each_same : (i left : ℕ) → i + left ≡ n → (bs : List ℕ) (at : ℕ) → at ≤ place i → read_each item i left (take cut bs) at ≡ read_each item i left bs at
+  each_same : (i left : ℕ) → i + left ≡ n → (bs : List ℕ) (at : ℕ) → at ≤ place i → read_each (λ j. (item j).read) i left (take cut bs) at ≡ read_each (λ j. (item j).read) i left bs at
   unfolding read_each
   each_same i zero e bs at early = refl
   each_same i (suc left) e bs at early =
@@ -65,12 +65,12 @@ module _ {A : Type 0} {cut : ℕ} {item : ℕ → Layout A} {P : A → Type 0} (
       followed_same _ ((item i).read (take cut bs) at) ((item i).read bs at) _ _ (one.same bs at early) (one.ends bs at early) (λ x mid p.
       ap (λ r. followed r (λ xs end. Ok (x ∷ xs, end))) (each_same (i + 1) left (omega arith) bs mid p.1))
 
-  each_ends : (i left : ℕ) → i + left ≡ n → (bs : List ℕ) (at : ℕ) → at ≤ place i → IfOk (read_each item i left bs at) (λ r. Any r.0 × (r.1 ≤ place n))
+  each_ends : (i left : ℕ) → i + left ≡ n → (bs : List ℕ) (at : ℕ) → at ≤ place i → IfOk (read_each (λ j. (item j).read) i left bs at) (λ r. Any r.0 × (r.1 ≤ place n))
   unfolding read_each
   each_ends i zero e bs at early = let last : i ≡ n = omega arith in (tt, omega (arith, ap place last))
   each_ends i (suc left) e bs at early =
       followed_made _ _ ((item i).read bs at) _ ((reach i (omega arith)).ends bs at early) (λ x mid p.
-      followed_made _ _ (read_each item (i + 1) left bs mid) _ (each_ends (i + 1) left (omega arith) bs mid p.1) (λ xs end q. q))
+      followed_made _ _ (read_each (λ j. (item j).read) (i + 1) left bs mid) _ (each_ends (i + 1) left (omega arith) bs mid p.1) (λ xs end q. q))
 
   pub each_reach : {from : ℕ} → from ≤ place 0 → Reach cut (each n item) Any from (place n)
   each_reach h = record { same = λ bs at early. each_same 0 n (omega arith) bs at (omega arith); ends = λ bs at early. each_ends 0 n (omega arith) bs at (omega arith) }

@@ -4,7 +4,7 @@ use Rattle.fields.specs.declared.fault.Refusal.TheVariants.{Trailing}
 use Rattle.fields.specs.declared.fault.Field.TheVariants.{Padding}
 use Rattle.fields.specs.Bits.{bits}
 use Rattle.fields.specs.Padding.{byte_end, stray}
-use Rattle.fields.specs.Faults.{Told, told, none}
+use Rattle.fields.specs.Faults.{Told, told}
 use Rattle.fields.specs.Layout.{Reading}
 use Rattle.plan.specs.Plan.{Plan}
 use Rattle.plan.specs.File.{plan_layout}
@@ -12,7 +12,7 @@ use Rattle.plan.specs.File.{plan_layout}
 -- a plan, if no bit is astray after its fields
 abbrev pub ended : Plan → Option ℕ → Result Plan Told
 ended p None = Ok p
-ended p (Some at) = Err (told Trailing Padding none none at)
+ended p (Some at) = Err (told Trailing Padding None None at)
 
 -- a reading of the fields, with what comes after them
 abbrev pub closed : List ℕ → Reading Plan → Result Plan Told

@@ -5,3 +5,4 @@ pub mod Decode
 pub mod Held
 pub mod Law
 pub mod Builtin
+pub mod Reading

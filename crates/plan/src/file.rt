@@ -7,7 +7,7 @@ ghost use Rattle.plan.specs.Law.{refusal as told_by, refused_as, numbered, table
 use crate::draft::Draft;
 use crate::reader::read_plan;
 use crate::tables::Plan;
-use fields::{BitReader, Fault, Field, NONE, Refusal};
+use fields::{BitReader, Fault, Field, Owner, Refusal};
 
 // The tables of the plan in a file, after which nothing but padding may come.
 fn tables_in(bytes: &[u8]) -> Result<Plan, Fault>
@@ -19,8 +19,7 @@ fn tables_in(bytes: &[u8]) -> Result<Plan, Fault>
         Some(bit) => Err(Fault {
             refusal: Refusal::Trailing,
             field: Field::Padding,
-            mode: NONE,
-            task: NONE,
+            owner: Owner::PLAN,
             bit,
         }),
         None => Ok(plan),
@@ -45,11 +44,6 @@ pub fn read(bytes: &[u8], place: &mut Draft) -> Result<(), Fault>
     ensures law { AcceptsExactly bytes.now (is_ok result) (plan_of place.new.plan) }
     ensures front { FrontTells bytes.now }
 {
-    match draft_in(bytes) {
-        Ok(draft) => {
-            *place = draft;
-            Ok(())
-        }
-        Err(fault) => Err(fault),
-    }
+    *place = draft_in(bytes)?;
+    Ok(())
 }

@@ -5,21 +5,21 @@ use Rattle.fields.specs.Layout.{Layout, whole}
 use Rattle.plan.specs.File.{enabling_layout}
 use Rattle.plan.proofs.reader.read_enabling_deadline.Goals as goal
 
-pub returns-then-has_deadline : goal.returns-then-has_deadline
+pub returns : goal.returns
 unfolding enabling_layout
-returns-then-has_deadline c =
+returns c =
     let me = c.args.bits.now in
-    let other = not-true _ (sym c.if-has_deadline.ensures) in
+    let other = not-true _ (sym c.if-not-has_deadline.ensures) in
     record {
       value = c.number.ensures.value ∙ sym (ap (λ (l : Layout ℕ). l.read (bits me.bytes.now) me.at) (cond-false _ _ _ other));
       bytes = c.number.ensures.bytes;
     }
 
-pub returns-else-has_deadline : goal.returns-else-has_deadline
+pub returns-then-not-has_deadline : goal.returns-then-not-has_deadline
 unfolding enabling_layout whole
-returns-else-has_deadline c =
+returns-then-not-has_deadline c =
     let me = c.args.bits.now in
-    let own = not-false _ (sym c.if-has_deadline.ensures) in
+    let own = not-false _ (sym c.if-not-has_deadline.ensures) in
     record {
       value = sym (ap (λ (l : Layout ℕ). l.read (bits me.bytes.now) me.at) (cond-true _ _ _ own));
       bytes = refl;

@@ -1,4 +1,4 @@
-use Rattle.std.proofs.Common.{◌≡◌, ℕ, List, Ok, sym, refl, ap, ◌∙◌}
+use Rattle.std.proofs.Common.{Some, None, ◌≡◌, ℕ, List, Ok, sym, refl, ap, ◌∙◌}
 use Rattle.fields.specs.declared.fault.Field.TheVariants.{Cost, Deadline, Separation}
 use Rattle.plan.specs.declared.tables.Task.{Task}
 use Rattle.fields.specs.Bits.{bits}
@@ -10,13 +10,13 @@ use Rattle.plan.proofs.reader.read_task.Goals as goal
 use Rattle.plan.proofs.reader.read_task.Goals.{In_ok-read, In_ok-read-2, In_ok-read-3}
 
 -- the parts as they were read, from the bytes that the reader began with
-cost_read : (c : In_ok-read) → (field Cost c.args.mode c.args.task 1 4095).read (bits c.args.bits.now.bytes.now) c.args.bits.now.at ≡ Ok (c.in_ok-read.field-0, c.number.new.self.at)
+cost_read : (c : In_ok-read) → (field Cost (Some c.args.mode) (Some c.args.task) 1 4095).read (bits c.args.bits.now.bytes.now) c.args.bits.now.at ≡ Ok (c.in_ok-read.field-0, c.number.new.self.at)
 cost_read c = sym c.in_ok-read.ensures.value
 
-deadline_read : (c : In_ok-read-2) → (field Deadline c.args.mode c.args.task c.in_ok-read.field-0 65535).read (bits c.args.bits.now.bytes.now) c.number.new.self.at ≡ Ok (c.in_ok-read-2.field-0, c.number-2.new.self.at)
+deadline_read : (c : In_ok-read-2) → (field Deadline (Some c.args.mode) (Some c.args.task) c.in_ok-read.field-0 65535).read (bits c.args.bits.now.bytes.now) c.number.new.self.at ≡ Ok (c.in_ok-read-2.field-0, c.number-2.new.self.at)
 deadline_read c = over_field Deadline _ _ _ _ _ _ c.least_deadline.ensures refl c.in_ok-read.ensures.bytes c.in_ok-read-2.ensures.value
 
-separation_read : (c : In_ok-read-3) → (field Separation c.args.mode c.args.task c.in_ok-read-2.field-0 65535).read (bits c.args.bits.now.bytes.now) c.number-2.new.self.at ≡ Ok (c.in_ok-read-3.field-0, c.number-3.new.self.at)
+separation_read : (c : In_ok-read-3) → (field Separation (Some c.args.mode) (Some c.args.task) c.in_ok-read-2.field-0 65535).read (bits c.args.bits.now.bytes.now) c.number-2.new.self.at ≡ Ok (c.in_ok-read-3.field-0, c.number-3.new.self.at)
 separation_read c = over_field Separation _ _ _ _ _ _ c.least_separation.ensures refl (c.in_ok-read-2.ensures.bytes ∙ c.in_ok-read.ensures.bytes) c.in_ok-read-3.ensures.value
 
 pub returns-in_err-read : goal.returns-in_err-read
@@ -34,7 +34,7 @@ unfolding task_layout part
 returns-in_err-read-2 c =
     let cost = c.in_ok-read.ensures in
     let told = c.in_err-read-2.ensures in
-    let read = over_field Deadline c.args.mode c.args.task c.in_ok-read.field-0 65535 _ _ c.least_deadline.ensures refl cost.bytes told.value in
+    let read = over_field Deadline (Some c.args.mode) (Some c.args.task) c.in_ok-read.field-0 65535 _ _ c.least_deadline.ensures refl cost.bytes told.value in
     record {
       value = stopped c.from_residual-in_err-read-2.result c.in_err-read-2.field-0.0 _ c.from_residual-in_err-read-2.ensures.1 ∙ rw (cost_read (goal.at.returns-in_err-read-2 c).In_ok-read, read);
       bytes = told.bytes ∙ cost.bytes;
@@ -46,7 +46,7 @@ returns-in_err-read-3 c =
     let cost = c.in_ok-read.ensures in
     let deadline = c.in_ok-read-2.ensures in
     let told = c.in_err-read-3.ensures in
-    let read = over_field Separation c.args.mode c.args.task c.in_ok-read-2.field-0 65535 _ _ c.least_separation.ensures refl (deadline.bytes ∙ cost.bytes) told.value in
+    let read = over_field Separation (Some c.args.mode) (Some c.args.task) c.in_ok-read-2.field-0 65535 _ _ c.least_separation.ensures refl (deadline.bytes ∙ cost.bytes) told.value in
     record {
       value = stopped c.from_residual-in_err-read-3.result c.in_err-read-3.field-0.0 _ c.from_residual-in_err-read-3.ensures.1 ∙ rw (cost_read (goal.at.returns-in_err-read-3 c).In_ok-read, deadline_read (goal.at.returns-in_err-read-3 c).In_ok-read-2, read);
       bytes = told.bytes ∙ deadline.bytes ∙ cost.bytes;

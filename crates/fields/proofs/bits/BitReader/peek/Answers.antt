@@ -10,15 +10,14 @@ returns-then-not-has c =
     let past = leb-false _ _ (sym c.if-not-has.ensures) in
     record {
       value = taken_none c.args.width (bits c.args.self.now.bytes.now) c.args.self.now.at (omega (arith, length_bits c.args.self.now.bytes.now, past));
-      refused = c.short.ensures;
       room = tt;
     }
 
 -- one bit more keeps within one power of two more
-below : (c : goal.After-bit) → c.loop-at.value * 2 + c.bit.result < 2 ^ (c.loop-at.at + 1 - c.args.self.now.at)
+below : (c : goal.After-from) → c.loop-at.value * 2 + c.from.result < 2 ^ (c.loop-at.at + 1 - c.args.self.now.at)
 below c =
     let room = leb-true _ _ (sym c.if-not-has.ensures) in
-    let bit : c.bit.result < 2 = rw c.bit.ensures (bit_below c.args.self.now.bytes.now c.loop-at.at (omega (arith, room))) in
+    let bit : c.from.result < 2 = rw (c.from.ensures ∙ c.bit.ensures) (bit_below c.args.self.now.bytes.now c.loop-at.at (omega (arith, room))) in
     rw (pow_next c.args.self.now.at c.loop-at.at c.loop-at.auto.at) (omega (arith, c.loop-at.invariant.1))
 
 pub overflow_add-value : goal.overflow_add-value
@@ -32,7 +31,7 @@ loop-at-preserved c =
     let bytes = c.args.self.now.bytes.now in
     let within : c.loop-at.at < length (bits bytes) = omega (arith, length_bits bytes, room) in
     let next = number_next (bits bytes) c.args.self.now.at c.loop-at.at c.loop-at.auto.at within in
-    ((λ i. c.loop-at.invariant.0 i * 2 + c.bit.ensures i) ∙ sym next, below c)
+    ((λ i. c.loop-at.invariant.0 i * 2 + (c.from.ensures ∙ c.bit.ensures) i) ∙ sym next, below c)
 
 pub returns : goal.returns
 returns c =
@@ -42,6 +41,5 @@ returns c =
     let value = rw all at c.loop-at.invariant.0 in
     record {
       value = ap (λ (n : ℕ). Some n) value ∙ taken_some c.args.width (bits bytes) c.args.self.now.at (omega (arith, length_bits bytes, room));
-      refused = tt;
       room = room;
     }

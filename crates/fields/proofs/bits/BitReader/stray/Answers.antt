@@ -1,36 +1,27 @@
-use Rattle.std.proofs.Common.{◌≡◌, ℕ, ◌*◌, ◌<◌, List, length, drop, Some, sym, ap, ◌∙◌, arith}
-use Rattle.std.proofs.lemmas.Bool.{leb-true, leb-false, eqb-true, eqb-false}
+use Rattle.std.proofs.Common.{rules, get_or, ◌≡◌, ◌+◌, ◌*◌, leb, drop, sym, ap, ◌∙◌, arith}
+use Rattle.std.specs.Option.{option_or}
+use Rattle.std.proofs.lemmas.Iterator.{first_from_Range}
 use Rattle.fields.specs.Bits.{bits}
 use Rattle.fields.specs.Padding.{stray, byte_end}
 use Rattle.fields.proofs.Numbers.{length_bits}
-use Rattle.fields.proofs.Strays.{stray_one, stray_past, stray_next, stray_none}
+use Rattle.fields.proofs.Strays.{FirstOne, stray_found}
 use Rattle.fields.proofs.bits.BitReader.stray.Goals as goal
+use Rattle.fields.proofs.bits.BitReader.stray.Goals.{After-find}
 
--- the search with the end of the byte as the code has it
-at_end : (bs : List ℕ) (at end : ℕ) → end ≡ byte_end at → stray (byte_end at) (drop at bs) at ≡ stray end (drop at bs) at
-at_end bs at end e = ap (λ x. stray x (drop at bs) at) (sym e)
+-- what `find` answers
+first_one : (c : After-find) → FirstOne (bits c.args.self.now.bytes.now) c.args.self.now.at (c.div_ceil-end.result * 8) c.find.result
+first_one c =
+    let bs = bits c.args.self.now.bytes.now in
+    first_from_Range _ _ _ c.find.result (λ i. get_or bs i 0 ≡ 1) (λ i. get_or bs i 0 ≡ 1 → ⊥) c.find.ensures.ran (λ x q e. search rules) (λ x q e. search rules)
 
-pub returns-then-is_set : goal.returns-then-is_set
-returns-then-is_set c =
+pub returns : goal.returns
+returns c =
     let me = c.args.self.now in
-    let found = stray_one (c.div_ceil-end.result * 8) (bits me.bytes.now) c.loop-at.at (omega (arith, length_bits me.bytes.now)) (eqb-true _ 1 (sym c.if-is_set.ensures)) in
-    sym (at_end (bits me.bytes.now) me.at (c.div_ceil-end.result * 8) (omega arith) ∙ c.loop-at.invariant ∙ found)
-
-pub loop-at-preserved : goal.loop-at-preserved
-loop-at-preserved c =
-    let me = c.args.self.now in
-    c.loop-at.invariant ∙ stray_next (c.div_ceil-end.result * 8) (bits me.bytes.now) c.loop-at.at (omega (arith, length_bits me.bytes.now)) c.loop-at-test.true (eqb-false _ 1 (sym c.if-is_set.ensures))
-
-pub returns-else-has : goal.returns-else-has
-returns-else-has c =
-    let me = c.args.self.now in
-    let over = stray_none (c.div_ceil-end.result * 8) (bits me.bytes.now) c.loop-at.at (omega (arith, length_bits me.bytes.now, leb-false _ _ (sym c.if-has.ensures))) in
-    sym (at_end (bits me.bytes.now) me.at (c.div_ceil-end.result * 8) (omega arith) ∙ c.loop-at.invariant ∙ over)
-
-pub returns-then-has : goal.returns-then-has
-returns-then-has c =
-    let me = c.args.self.now in
-    let more : c.loop-at.at < length (bits me.bytes.now) = omega (arith, length_bits me.bytes.now, leb-true _ _ (sym c.if-has.ensures)) in
-    let past = stray_past (c.div_ceil-end.result * 8) (bits me.bytes.now) c.loop-at.at more c.loop-at-test.false in
-    let same : c.loop-at.at ≡ c.div_ceil-end.result * 8 = omega arith in
-    sym (at_end (bits me.bytes.now) me.at (c.div_ceil-end.result * 8) (omega arith) ∙ c.loop-at.invariant ∙ past ∙ ap (λ (n : ℕ). Some n) same)
+    let bs = bits me.bytes.now in
+    let end = c.div_ceil-end.result * 8 in
+    let long = length_bits me.bytes.now in
+    let byte : end ≡ byte_end me.at = omega arith in
+    let more = c.has.ensures ∙ ap (leb (end + 1)) (sym long) in
+    c.or.ensures ∙ ap (option_or c.find.result) c.then_some.ensures
+    ∙ stray_found bs me.at end (omega (arith, long)) c.find.result c.has.result (omega arith) (first_one (goal.at.returns c).After-find) more
+    ∙ ap (λ e. stray e (drop me.at bs) me.at) byte
