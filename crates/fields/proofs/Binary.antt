@@ -45,9 +45,3 @@ number_next bs first at from within =
 
 pub pow_next : (first at : ℕ) → first ≤ at → 2 ^ (at + 1 - first) ≡ 2 ^ (at - first) * 2
 pow_next first at from = ap (λ n. 2 ^ n) (omega arith) ∙ pow-add 2 (at - first) 1
-
-pub taken_none : (width : ℕ) (bs : List ℕ) (at : ℕ) → length bs < at + width → None ≡ taken width bs at
-taken_none width bs at h = sym (cond-false _ _ _ (lt-leb (at + width) (length bs) h))
-
-pub taken_some : (width : ℕ) (bs : List ℕ) (at : ℕ) → at + width ≤ length bs → Some (number_from_digits 2 (take width (drop at bs))) ≡ taken width bs at
-taken_some width bs at h = sym (cond-true _ _ _ (le-leb (at + width) (length bs) h))

@@ -1,4 +1,3 @@
 pub mod Numbers
 pub mod Binary
 pub mod Strays
-pub mod FieldReads

@@ -65,6 +65,7 @@ impl<'a> BitReader<'a> {
     }
 
     // The number in the next `width` bits, where the input has so many. The reader does not pass them.
+    #[tactic(auto, using(crate::proofs::Numbers::length_bits, crate::proofs::Binary::bit_below, crate::proofs::Binary::number_next, crate::proofs::Binary::pow_next))]
     pub(crate) fn peek(&self, width: u32) -> Option<u16>
         requires { width ≤ 16 }
         ensures value { result ≡ taken width (bits self.now.bytes.now) self.now.at }

@@ -7,15 +7,9 @@ ghost use Rattle.fields.specs.Readers.{answered, located};
 use crate::bits::BitReader;
 use crate::fault::{Fault, Field, FieldFault, Owner, Refusal};
 
-// Whether a value lies between `least` and `most`, both included.
-fn in_range(value: u16, least: u16, most: u16) -> bool
-    ensures { result ≡ (nat_le least value && nat_le value most) }
-{
-    (least..=most).contains(&value)
-}
-
 impl BitReader<'_> {
     // The number in a field, which is to lie between `least` and `most`. A refusal leaves the reader where it was.
+    #[tactic(auto, unfolding(crate::specs::Layout::field))]
     fn field(&mut self, field: Field, least: u16, most: u16) -> Result<u16, FieldFault>
         ensures value { (mode task : Option ℕ) → located mode task result self.new.at ≡ (in_field field mode task least most).read (bits self.old.bytes.now) self.old.at }
         ensures kept { OnErr result (self.new.at ≡ self.old.at) }
@@ -24,7 +18,7 @@ impl BitReader<'_> {
     {
         let width = field.width();
         let value = self.peek(width).ok_or(self.fault(Refusal::Ended, field))?;
-        if !in_range(value, least, most) {
+        if !(least..=most).contains(&value) {
             return Err(self.fault(Refusal::OutOfRange, field));
         }
         self.advance(width);

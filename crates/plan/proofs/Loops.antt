@@ -1,10 +1,12 @@
 -- A loop that reads so many values into a table, beside what is read of such values. Assumes nothing.
-use Rattle.std.proofs.Common.{◌≡◌, ℕ, zero, suc, ◌+◌, ◌-◌, ◌<◌, ◌≤◌, List, [], ◌∷◌, ◌++◌, map, length, set, replicate, IfOk, Ok, Err, sym, refl, ap, ◌∙◌, subst, append_assoc, append-nil, arith}
+use Rattle.std.proofs.Common.{◌≡◌, ℕ, zero, suc, ◌+◌, ◌-◌, ◌<◌, ◌≤◌, List, [], ◌∷◌, ◌++◌, map, length, set, replicate, IfOk, Ok, Err, sym, refl, ap, ◌∙◌, append_assoc, append-nil, arith}
 use Rattle.std.proofs.lemmas.List.{length_push, set_at}
 use Rattle.fields.specs.Faults.{Told}
 use Rattle.plan.specs.Held.{padded}
 use Rattle.fields.specs.Layout.{Layout, Reading, followed, read_each, each}
 use Rattle.fields.specs.Readers.{converted}
+use Rattle.std.proofs.lemmas.Result.{IfOk-at_ok}
+use Rattle.plan.proofs.Exits.{read_from}
 use Rattle.plan.proofs.Lawful.{followed_made}
 
 -- values before those of a reading
@@ -102,3 +104,9 @@ each_length reading i zero bs at = refl
 each_length reading i (suc n) bs at =
     followed_made (λ _. Unit {0}) _ (reading i bs at) _ (made_any (reading i bs at)) (λ x mid _.
     followed_made (λ r. length r.0 ≡ n) _ (read_each reading (i + 1) n bs mid) _ (each_length reading (i + 1) n bs mid) (λ xs end e. ap suc e))
+
+-- so many values were read, and stand in the table
+pub each_read : {A X : Type 0} (form : A → X) (size : ℕ) (blank : X) (item : ℕ → Layout A) (n : ℕ) (bs : List ℕ) (at : ℕ) (table : List X) (next : ℕ) → Ok (table, next) ≡ converted (λ xs. padded size blank (map form xs)) ((each n item).read bs at) → (xs : List A) × (length xs ≡ n) × (table ≡ padded size blank (map form xs)) × ((each n item).read bs at ≡ Ok (xs, next))
+each_read form size blank item n bs at table next e =
+    let listed = read_from (λ xs. padded size blank (map form xs)) ((each n item).read bs at) table next e in
+    (listed.value, IfOk-at_ok (λ r. length r.0 ≡ n) listed.reads (each_length (λ j. (item j).read) 0 n bs at), listed.same, listed.reads)

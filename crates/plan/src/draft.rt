@@ -7,11 +7,10 @@ ghost use Rattle.plan.specs.Builtin.{least};
 use crate::tables::Plan;
 
 // Neither `Copy` nor `Clone`: whoever adopts a draft uses it up.
-// The bars round `Within` make it a fact with one proof, which is what a struct may hold.
 #[derive(Drop)]
 pub struct Draft {
     plan: Plan,
-    ghost within: { ∥ Within (plan_of plan) ∥₁ },
+    ghost within: { Within (plan_of plan) },
     ghost blank: { plan_table (plan_of plan) ≡ plan },
 }
 

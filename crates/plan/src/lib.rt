@@ -3,6 +3,7 @@
 
 mod draft;
 mod file;
+mod modes;
 mod reader;
 mod tables;
 

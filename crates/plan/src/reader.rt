@@ -10,6 +10,7 @@ ghost use Rattle.plan.specs.Sizes.{most_modes, most_tasks};
 ghost use Rattle.fields.specs.Readers.{answered};
 ghost use Rattle.plan.specs.Reading.{Answers, ReadsAs, ReadsTable};
 
+use crate::modes::Modes;
 use crate::tables::{MAX_COST, MAX_RULE, MAX_TIME, MODES, Mode, PROCESSORS, Plan, TASKS, Task};
 use fields::{BitReader, Fault, Field, Owner};
 
@@ -39,22 +40,8 @@ fn read_table<T: Copy, F: Fn(&mut BitReader<'_>, u8) -> Result<T, Fault>, const 
     Ok(table)
 }
 
-// The number of the last of so many modes.
-fn last_mode(modes: u8) -> u16
-    requires { 1 ≤ modes }
-    ensures { result ≡ modes - 1 }
-{
-    modes as u16 - 1
-}
-
-// A task has an enabling deadline for every mode but its own.
-fn has_deadline(mode: u8, old: u8) -> bool
-    ensures { result ≡ not (old == mode) }
-{
-    old != mode
-}
-
 // The enabling deadline of a task for one old mode: the file has none for the task's own.
+#[tactic(auto, unfolding(crate::specs::File::enabling_layout, fields::specs::Layout::whole))]
 fn read_enabling_deadline(
     bits: &mut BitReader<'_>,
     mode: u8,
@@ -63,7 +50,7 @@ fn read_enabling_deadline(
 ) -> Result<u16, Fault>
     ensures { Answers (enabling_layout mode task old).read bits.old result bits.new }
 {
-    if !has_deadline(mode, old) {
+    if old == mode {
         return Ok(0);
     }
     let owner = Owner {
@@ -76,45 +63,47 @@ fn read_enabling_deadline(
 // All enabling deadlines of a task, by old mode.
 fn read_enabling(
     bits: &mut BitReader<'_>,
-    modes: u8,
+    modes: Modes,
     mode: u8,
     task: u8,
 ) -> Result<[u16; MODES], Fault>
-    requires few { modes ≤ most_modes }
-    ensures { ReadsAs (padded most_modes 0) (each modes (enabling_layout mode task)) bits.old result bits.new }
+    ensures { ReadsAs (padded most_modes 0) (each modes.count (enabling_layout mode task)) bits.old result bits.new }
 {
-    read_table(bits, modes, 0, |bits, old| {
+    read_table(bits, modes.count, 0, |bits, old| {
         read_enabling_deadline(bits, mode, task, old)
     })
 }
 
 // One task, each time at least the one before it.
-fn read_task(bits: &mut BitReader<'_>, modes: u8, mode: u8, task: u8) -> Result<Task, Fault>
-    requires few { modes ≤ most_modes }
-    ensures { ReadsAs task_table (task_layout modes mode task) bits.old result bits.new }
+#[tactic(auto, unfolding(crate::specs::File::task_layout, fields::specs::Layout::part, fields::specs::Layout::whole))]
+fn read_task(bits: &mut BitReader<'_>, modes: Modes, mode: u8, task: u8) -> Result<Task, Fault>
+    ensures { ReadsAs task_table (task_layout modes.count mode task) bits.old result bits.new }
 {
     let owner = Owner {
         mode: Some(mode),
         task: Some(task),
     };
-    let mut read = Task::BLANK;
-    read.cost = bits.number(Field::Cost, owner, 1, MAX_COST)?;
-    read.deadline = bits.number(Field::Deadline, owner, read.least_deadline(), MAX_TIME)?;
-    read.separation = bits.number(Field::Separation, owner, read.least_separation(), MAX_TIME)?;
-    read.enabling = read_enabling(bits, modes, mode, task)?;
-    Ok(read)
+    let cost = bits.number(Field::Cost, owner, 1, MAX_COST)?;
+    let deadline = bits.number(Field::Deadline, owner, cost, MAX_TIME)?;
+    let separation = bits.number(Field::Separation, owner, deadline, MAX_TIME)?;
+    let enabling = read_enabling(bits, modes, mode, task)?;
+    Ok(Task {
+        cost,
+        deadline,
+        separation,
+        enabling,
+    })
 }
 
 // So many tasks of a mode.
 fn read_tasks(
     bits: &mut BitReader<'_>,
-    modes: u8,
+    modes: Modes,
     mode: u8,
     count: u8,
 ) -> Result<[Task; TASKS], Fault>
-    requires few { modes ≤ most_modes }
-    requires room { count ≤ most_tasks }
-    ensures { ReadsAs (λ ts. padded most_tasks blank_task (map task_table ts)) (each count (task_layout modes mode)) bits.old result bits.new }
+    requires { count ≤ most_tasks }
+    ensures { ReadsAs (λ ts. padded most_tasks blank_task (map task_table ts)) (each count (task_layout modes.count mode)) bits.old result bits.new }
 {
     read_table(bits, count, Task::BLANK, |bits, task| {
         read_task(bits, modes, mode, task)
@@ -122,9 +111,9 @@ fn read_tasks(
 }
 
 // One mode, in a plan of so many modes.
-fn read_mode(bits: &mut BitReader<'_>, modes: u8, mode: u8) -> Result<Mode, Fault>
-    requires few { modes ≤ most_modes }
-    ensures { ReadsAs mode_table (mode_layout modes mode) bits.old result bits.new }
+#[tactic(auto, unfolding(crate::specs::File::mode_layout, fields::specs::Layout::part, fields::specs::Layout::whole))]
+fn read_mode(bits: &mut BitReader<'_>, modes: Modes, mode: u8) -> Result<Mode, Fault>
+    ensures { ReadsAs mode_table (mode_layout modes.count mode) bits.old result bits.new }
 {
     let owner = Owner {
         mode: Some(mode),
@@ -142,28 +131,28 @@ fn read_mode(bits: &mut BitReader<'_>, modes: u8, mode: u8) -> Result<Mode, Faul
 }
 
 // So many modes.
-fn read_modes(bits: &mut BitReader<'_>, count: u8) -> Result<[Mode; MODES], Fault>
-    requires few { count ≤ most_modes }
-    ensures { ReadsAs (λ ms. padded most_modes blank_mode (map mode_table ms)) (each count (mode_layout count)) bits.old result bits.new }
+fn read_modes(bits: &mut BitReader<'_>, modes: Modes) -> Result<[Mode; MODES], Fault>
+    ensures { ReadsAs (λ ms. padded most_modes blank_mode (map mode_table ms)) (each modes.count (mode_layout modes.count)) bits.old result bits.new }
 {
-    read_table(bits, count, Mode::BLANK, |bits, mode| {
-        read_mode(bits, count, mode)
+    read_table(bits, modes.count, Mode::BLANK, |bits, mode| {
+        read_mode(bits, modes, mode)
     })
 }
 
 // A whole plan, without what may follow it.
+#[tactic(auto, unfolding(crate::specs::File::plan_layout, fields::specs::Layout::part, fields::specs::Layout::whole))]
 pub(crate) fn read_plan(bits: &mut BitReader<'_>) -> Result<Plan, Fault>
     ensures { ReadsAs plan_table plan_layout bits.old result bits.new }
 {
     let processors = bits.number(Field::Processors, Owner::PLAN, 0, LAST_PROCESSOR)?;
     let last = bits.number(Field::Modes, Owner::PLAN, 0, LAST_MODE)?;
-    let count = last as u8 + 1;
-    let start = bits.number(Field::Start, Owner::PLAN, 0, last_mode(count))?;
-    let modes = read_modes(bits, count)?;
+    let start = bits.number(Field::Start, Owner::PLAN, 0, last)?;
+    let all = Modes::up_to(last);
+    let modes = read_modes(bits, all)?;
     Ok(Plan {
         processors: processors as u8 + 1,
         start: start as u8,
-        count,
+        count: all.count,
         modes,
     })
 }

@@ -37,20 +37,6 @@ impl Task {
         separation: 0,
         enabling: [0; MODES],
     };
-
-    // D is at least C: a job can run to its end by its deadline.
-    pub(crate) fn least_deadline(&self) -> u16
-        ensures { result ≡ self.now.cost }
-    {
-        self.cost
-    }
-
-    // T is at least D: a job is due before the next of its task.
-    pub(crate) fn least_separation(&self) -> u16
-        ensures { result ≡ self.now.deadline }
-    {
-        self.deadline
-    }
 }
 
 // A mode: the code of its priority rule, and its first `count` tasks.

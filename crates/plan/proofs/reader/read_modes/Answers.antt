@@ -7,6 +7,6 @@ use Rattle.plan.proofs.reader.read_modes.Goals as goal
 
 pub returns : goal.returns
 returns c =
-    let item = mode_layout c.args.count in
+    let item = mode_layout c.args.modes.count in
     let told = c.read_table.ensures (λ i bs at. converted mode_table ((item i).read bs at)) (λ p q i r e. search rules) in
     record { value = told.value ∙ table_converted mode_table 8 blank_mode item _ _ _; bytes = told.bytes }

@@ -1,6 +1,5 @@
-use Rattle.std.proofs.Common.{◌≡◌, ℕ, [], List, Ok, Err, Result, sym, refl, ap, ◌∙◌, arith}
+use Rattle.std.proofs.Common.{sym, refl, ap, ◌∙◌, arith}
 use Rattle.fields.specs.Bits.{bits}
-use Rattle.fields.specs.Faults.{numbers}
 use Rattle.fields.specs.Readers.{answered}
 use Rattle.plan.proofs.Exits.{stopped}
 use Rattle.plan.proofs.Loops.{sofar_none, sofar_more, sofar_fails, sofar_all}
