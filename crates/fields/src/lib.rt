@@ -5,6 +5,7 @@ mod bits;
 mod fault;
 mod fronts;
 mod limits;
+mod words;
 
 pub use bits::{BitReader, MOST_BYTES};
 pub use fault::{Fault, Field, NONE, Owner, Refusal};

@@ -21,7 +21,7 @@ pub const MAX_TIME: u16 = 65535;
 pub const MAX_RULE: u16 = 2;
 
 // A task, with its times in ticks. `enabling` has the enabling deadline for each old mode, and 0 for the task's own.
-#[derive(Clone, Copy)]
+#[derive(Clone, Copy, Debug, PartialEq, Eq)]
 pub struct Task {
     pub cost: u16,
     pub deadline: u16,
@@ -40,7 +40,7 @@ impl Task {
 }
 
 // A mode: the code of its priority rule, and its first `count` tasks.
-#[derive(Clone, Copy)]
+#[derive(Clone, Copy, Debug, PartialEq, Eq)]
 pub struct Mode {
     pub rule: u8,
     pub count: u8,
@@ -64,7 +64,7 @@ impl Mode {
 }
 
 // A plan: processors, the mode that a board begins in, and the first `count` modes.
-#[derive(Drop)]
+#[derive(Debug, PartialEq, Eq, Drop)]
 pub struct Plan {
     pub processors: u8,
     pub start: u8,
@@ -84,15 +84,19 @@ impl Plan {
     pub(crate) fn least() -> Plan
         ensures { result ≡ plan_table least }
     {
-        let mut task = Task::BLANK;
-        task.cost = 1;
-        task.deadline = 1;
-        task.separation = 1;
-        let mut mode = Mode::BLANK;
-        mode.count = 1;
-        mode.tasks[0] = task;
+        let mut tasks = [Task::BLANK; TASKS];
+        tasks[0] = Task {
+            cost: 1,
+            deadline: 1,
+            separation: 1,
+            ..Task::BLANK
+        };
         let mut modes = [Mode::BLANK; MODES];
-        modes[0] = mode;
+        modes[0] = Mode {
+            rule: 0,
+            count: 1,
+            tasks,
+        };
         Plan {
             processors: 1,
             start: 0,
