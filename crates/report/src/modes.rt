@@ -22,20 +22,16 @@ pub(crate) struct ModeText<'a> {
 }
 
 impl ModeText<'_> {
-    // A row of the table after its first cell: `cells`, and one cell of `enabling` for each mode of the plan but this one.
+    // The rest of a row of the table: one of `cells` for each mode of the plan but this one.
     fn finish_row<T: fmt::Display, W: fmt::Write>(
         &self,
         f: &mut fmt::Formatter<W>,
         cells: &[T],
-        enabling: &[T],
     ) -> fmt::Result
         ensures { (text : T → List ℕ) → ((x : T) → T.styled_output x (format_spec 32 3 0 6 (2 ^ 64 - 1)) ≡ Some (text x))
-            → WritesOnOk W.write_str_gives f.old result (line (flat_map text cells.now ∷ flat_map text (remove (take self.now.count enabling.now) self.now.number) ∷ [])) f.new }
+            → WritesOnOk W.write_str_gives f.old result (line (flat_map text (remove (take self.now.count cells.now) self.now.number) ∷ [])) f.new }
     {
-        for cell in cells {
-            write!(f, "{cell:>6}")?;
-        }
-        for (old, cell) in first(enabling, self.count).iter().enumerate() {
+        for (old, cell) in first(cells, self.count).iter().enumerate() {
             if old != self.number {
                 write!(f, "{cell:>6}")?;
             }
@@ -47,8 +43,8 @@ impl ModeText<'_> {
     fn head<W: fmt::Write>(&self, f: &mut fmt::Formatter<W>) -> fmt::Result
         ensures { WritesOnOk W.write_str_gives f.old result (table_head (min self.now.count 8) self.now.number) f.new }
     {
-        f.write_str("  task")?;
-        self.finish_row(f, &["C", "D", "T"], &ENABLING)
+        f.write_str("  task     C     D     T")?;
+        self.finish_row(f, &ENABLING)
     }
 
     // The row of one task: its number, C, D, T, and its enabling deadlines.
@@ -60,9 +56,14 @@ impl ModeText<'_> {
     ) -> fmt::Result
         ensures { WritesOnOk W.write_str_gives f.old result (task_row self.now.number number (task_of self.now.count task.now)) f.new }
     {
-        write!(f, "{number:>6}")?;
-        let times = [task.cost, task.deadline, task.separation];
-        self.finish_row(f, &times, &task.enabling)
+        let Task {
+            cost,
+            deadline,
+            separation,
+            ref enabling,
+        } = *task;
+        write!(f, "{number:>6}{cost:>6}{deadline:>6}{separation:>6}")?;
+        self.finish_row(f, enabling)
     }
 }
 

@@ -3,12 +3,13 @@ use Rattle.std.proofs.Common.{rules, arith, refl}
 use Rattle.std.proofs.Output.{has_written_append, has_written_of_eq}
 use Rattle.std.proofs.lemmas.Grind.{common_steps}
 use Rattle.plan.specs.Held.{task_of}
-use Rattle.report.specs.PlanText.{task_row, mode_line}
-use Rattle.report.proofs.Lists.{each_none, each_more}
+use Rattle.report.specs.PlanText.{task_row, mode_line, each}
+use Rattle.report.proofs.Lists.{each_more}
 use Rattle.report.proofs.modes.ModeTextDisplay.fmt.Goals as goal
 
 pub loop-number-init : goal.loop-number-init
-loop-number-init g c plain = has_written_of_eq _ _ _ _ _ (each_none (task_row c.args.self.now.number) (task_of c.args.self.now.count)) (search rules)
+unfolding each
+loop-number-init g c = search rules
 
 pub loop-number-preserved : goal.loop-number-preserved
 loop-number-preserved g c plain =

@@ -3,14 +3,13 @@ use Rattle.std.proofs.Common.{◌≡◌, min, length, rules, refl}
 use Rattle.std.proofs.Output.{has_written_append, has_written_of_eq}
 use Rattle.std.proofs.lemmas.List.{take_all, length-take, length-map}
 use Rattle.plan.specs.Held.{mode_of}
-use Rattle.report.specs.PlanText.{mode_text}
-use Rattle.report.proofs.Lists.{each_none, each_more}
+use Rattle.report.specs.PlanText.{mode_text, each}
+use Rattle.report.proofs.Lists.{each_more}
 use Rattle.report.proofs.plans.PlanText.modes.Goals as goal
 
 pub loop-number-init : goal.loop-number-init
-loop-number-init g c plain =
-    let count = c.from-count.result in
-    has_written_of_eq _ _ _ _ _ (each_none (mode_text (min count 8)) (mode_of count)) (search rules)
+unfolding each
+loop-number-init g c = search rules
 
 pub loop-number-preserved : goal.loop-number-preserved
 loop-number-preserved g c plain =
