@@ -1,10 +1,9 @@
 // The texts of plans and faults, as a person reads them.
 #![tactic(auto)]
 
-mod cells;
 mod faults;
+mod modes;
 mod plans;
-mod tables;
 
 pub use faults::fault_text;
 pub use plans::draft_text;

@@ -1,72 +1,70 @@
-// The text of a plan: a first line, its modes, and a last line.
-ghost use Rattle.std.specs.Prelude.{◌≡◌, min, IfOk, string_bytes};
-ghost use Rattle.plan.specs.Held.{mode_of, plan_of};
-ghost use Rattle.report.specs.PlanText.{mode_line, mode_text, plan_line, modes_text, legend, plan_text};
+// The text of a plan: a first line, its modes, and a last line that says what the tables hold.
+ghost use Rattle.std.specs.Prelude.{◌≡◌, Some, IfOk, string_bytes};
+ghost use Rattle.std.specs.Fmt.{WritesOnOk};
+ghost use Rattle.plan.specs.Held.{plan_of};
+ghost use Rattle.report.specs.PlanText.{plan_line, modes_text, plan_text};
 
-use crate::tables::mode_table;
+use crate::modes::ModeText;
 use fields::first;
-use plan::{Draft, Mode, Plan};
+use plan::{Draft, Plan};
 use std::alloc::{AllocError, Global};
+use std::fmt;
 
-// The line above the table of a mode.
-fn mode_line(heap: Global, number: usize, rule: u8) -> Result<String, AllocError>
-    ensures { IfOk result (λ s. string_bytes s ≡ mode_line number rule) }
-{
-    format!(in heap; "mode {number}, rule {rule}\n")
-}
+// Any plan, within its limits or not.
+#[derive(Clone, Copy)]
+struct PlanText<'a>(&'a Plan);
 
-// A mode of a plan that counts `count` modes.
-fn mode_text(heap: Global, number: usize, mode: &Mode, count: usize) -> Result<String, AllocError>
-    ensures { IfOk result (λ s. string_bytes s ≡ mode_text (min count 8) number (mode_of count mode.now)) }
-{
-    let line = mode_line(heap, number, mode.rule)?;
-    let table = mode_table(heap, number, mode, count)?;
-    format!(in heap; "{line}{table}")
-}
-
-// The modes that the plan counts, in their order.
-fn modes_text(heap: Global, plan: &Plan) -> Result<String, AllocError>
-    ensures { IfOk result (λ s. string_bytes s ≡ modes_text (plan_of plan.now)) }
-{
-    let mut text = String::new(heap);
-    let count = usize::from(plan.count);
-    let modes = first(&plan.modes, count);
-    for (number, mode) in modes.iter().enumerate() {
-        text.push_str(&mode_text(heap, number, mode, count)?)?;
+impl PlanText<'_> {
+    // The first line.
+    fn first_line<W: fmt::Write>(&self, f: &mut fmt::Formatter<W>) -> fmt::Result
+        ensures { WritesOnOk W.write_str_gives f.old result (plan_line (plan_of self.now.0.now)) f.new }
+    {
+        let Plan {
+            processors,
+            start,
+            ..
+        } = self.0;
+        let modes = self.0.modes().len();
+        writeln!(
+            f,
+            "processors {processors}, modes {modes}, start mode {start}"
+        )
     }
-    Ok(text)
+
+    // The modes that the plan counts, in their order.
+    fn modes<W: fmt::Write>(&self, f: &mut fmt::Formatter<W>) -> fmt::Result
+        ensures { WritesOnOk W.write_str_gives f.old result (modes_text (plan_of self.now.0.now)) f.new }
+    {
+        let count = usize::from(self.0.count);
+        // `self.0.modes()` does not tell that there are `MODES` at most.
+        for (number, mode) in first(&self.0.modes, count).iter().enumerate() {
+            let text = ModeText {
+                number,
+                mode,
+                count,
+            };
+            write!(f, "{text}")?;
+        }
+        Ok(())
+    }
 }
 
-// The first line.
-fn plan_line(heap: Global, plan: &Plan) -> Result<String, AllocError>
-    ensures { IfOk result (λ s. string_bytes s ≡ plan_line (plan_of plan.now)) }
-{
-    let processors = plan.processors;
-    let modes = first(&plan.modes, usize::from(plan.count)).len();
-    let start = plan.start;
-    format!(in heap; "processors {processors}, modes {modes}, start mode {start}\n")
-}
+impl fmt::Display for PlanText<'_> {
+    ghost output = { λ text. Some (plan_text (plan_of text.0.now)) };
 
-// The last line, which says what the tables hold.
-fn legend_line() -> &'static str
-    ensures { result.now ≡ legend }
-{
-    "times in ticks; E0 is the enabling deadline when mode 0 is left, and so on\n"
-}
-
-// The whole text, of any plan, within its limits or not.
-fn plan_text(heap: Global, plan: &Plan) -> Result<String, AllocError>
-    ensures { IfOk result (λ s. string_bytes s ≡ plan_text (plan_of plan.now)) }
-{
-    let line = plan_line(heap, plan)?;
-    let modes = modes_text(heap, plan)?;
-    let legend = legend_line();
-    format!(in heap; "{line}{modes}{legend}")
+    fn fmt<W: fmt::Write>(&self, f: &mut fmt::Formatter<W>) -> fmt::Result {
+        self.first_line(f)?;
+        self.modes(f)?;
+        writeln!(
+            f,
+            "times in ticks; E0 is the enabling deadline when mode 0 is left, and so on"
+        )
+    }
 }
 
 // The text of the plan that a draft holds.
-pub fn draft_text(heap: Global, draft: &Draft) -> Result<String, AllocError>
+pub fn draft_text(alloc: Global, draft: &Draft) -> Result<String, AllocError>
     ensures { IfOk result (λ s. string_bytes s ≡ plan_text (plan_of draft.now.plan)) }
 {
-    plan_text(heap, draft.plan())
+    PlanText(draft.plan()).to_string(alloc)
 }
