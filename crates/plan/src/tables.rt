@@ -1,8 +1,9 @@
 // The tables of a plan, as a board holds them: fixed arrays with counts.
 // Places past a count hold zeros, so that equal plans are equal tables.
-ghost use Rattle.std.specs.Prelude.{◌≡◌, take};
+ghost use Rattle.std.specs.Prelude.{◌≡◌, min, length, take};
 ghost use Rattle.plan.specs.Held.{plan_table};
 ghost use Rattle.plan.specs.Builtin.{least};
+ghost use Rattle.plan.specs.Sizes.{most_modes, most_tasks};
 
 use fields::first;
 
@@ -57,7 +58,8 @@ impl Mode {
 
     // The tasks that it counts.
     pub fn tasks(&self) -> &[Task]
-        ensures { result.now ≡ take self.now.count self.now.tasks }
+        ensures tasks { result.now ≡ take self.now.count self.now.tasks }
+        ensures count { length result.now ≡ min self.now.count most_tasks }
     {
         first(&self.tasks, usize::from(self.count))
     }
@@ -75,7 +77,8 @@ pub struct Plan {
 impl Plan {
     // The modes that it counts.
     pub fn modes(&self) -> &[Mode]
-        ensures { result.now ≡ take self.now.count self.now.modes }
+        ensures modes { result.now ≡ take self.now.count self.now.modes }
+        ensures count { length result.now ≡ min self.now.count most_modes }
     {
         first(&self.modes, usize::from(self.count))
     }

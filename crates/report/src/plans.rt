@@ -5,7 +5,6 @@ ghost use Rattle.plan.specs.Held.{plan_of};
 ghost use Rattle.report.specs.PlanText.{plan_line, modes_text, plan_text};
 
 use crate::modes::ModeText;
-use fields::first;
 use plan::{Draft, Plan};
 use std::alloc::{AllocError, Global};
 use std::fmt;
@@ -36,8 +35,7 @@ impl PlanText<'_> {
         ensures { WritesOnOk W.write_str_gives f.old result (modes_text (plan_of self.now.0.now)) f.new }
     {
         let count = usize::from(self.0.count);
-        // `self.0.modes()` does not tell that there are `MODES` at most.
-        for (number, mode) in first(&self.0.modes, count).iter().enumerate() {
+        for (number, mode) in self.0.modes().iter().enumerate() {
             let text = ModeText {
                 number,
                 mode,

@@ -10,4 +10,4 @@ unfolding plan_line
 returns g c plain ok =
     let p = c.args.self.now.0.now in
     let held = length-map (take p.count p.modes) (mode_of p.count) in
-    rw (held, ← c.modes.ensures) (c.writeln.ensures.writes plain ok)
+    rw (held, ← c.modes.ensures.modes) (c.writeln.ensures.writes plain ok)

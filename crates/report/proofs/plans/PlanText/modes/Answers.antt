@@ -22,8 +22,8 @@ loop-number-preserved g c plain =
 pub returns : goal.returns
 returns g c plain ok =
     let p = c.args.self.now.0.now in
-    let size : length c.first-mode-items.result.now ≡ min c.from-count.result 8 = search (rules, length-take) in
-    let held = length-map c.first-mode-items.result.now (mode_of p.count) in
-    let all = take_all c.loop-number.number c.first-mode-items.result.now c.loop-number-test.false in
+    let size : length c.modes-mode-items.result.now ≡ min c.from-count.result 8 = search (rules, length-take) in
+    let held = length-map c.modes-mode-items.result.now (mode_of p.count) in
+    let all = take_all c.loop-number.number c.modes-mode-items.result.now c.loop-number-test.false in
     let modes = c.loop-number.invariant plain in
     search (rules)
