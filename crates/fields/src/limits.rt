@@ -1,5 +1,5 @@
 // Numbers in fields, with their limits: a fault gains first its field, and then its owner.
-ghost use Rattle.std.specs.Prelude.{◌≡◌, Option, ℕ, ◌≤◌, ◌&&◌, IfOk, OnErr, nat_le};
+ghost use Rattle.std.specs.Prelude.{◌≡◌, Option, ℕ, ◌≤◌, IfOk, OnErr};
 ghost use Rattle.fields.specs.Bits.{bits};
 ghost use Rattle.fields.specs.Layout.{field as in_field};
 ghost use Rattle.fields.specs.Readers.{answered, located};

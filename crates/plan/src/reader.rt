@@ -1,13 +1,12 @@
 // The reader of a plan: its fields in their order, into the tables.
-ghost use Rattle.std.specs.Prelude.{◌≡◌, ℕ, ◌-◌, ◌≤◌, not, map, ◌==◌};
+ghost use Rattle.std.specs.Prelude.{◌<◌, None, IfOk, ℕ, ◌-◌, ◌≤◌, map, ◌==◌};
 ghost use Rattle.std.specs.Borrow.{MutBor};
 ghost use Rattle.fields.specs.declared.bits.BitReader.{BitReader};
-ghost use Rattle.fields.specs.Bits.{bits as bits_of};
-ghost use Rattle.fields.specs.Layout.{each};
+ghost use Rattle.fields.specs.Layout.{field, each};
+ghost use Rattle.fields.specs.declared.fault.Field.TheVariants.{Start};
 ghost use Rattle.plan.specs.File.{enabling_layout, task_layout, mode_layout, plan_layout};
 ghost use Rattle.plan.specs.Held.{padded, blank_task, blank_mode, task_table, mode_table, plan_table};
 ghost use Rattle.plan.specs.Sizes.{most_modes, most_tasks};
-ghost use Rattle.fields.specs.Readers.{answered};
 ghost use Rattle.plan.specs.Reading.{Answers, ReadsAs, ReadsTable};
 
 use crate::modes::Modes;
@@ -139,6 +138,14 @@ fn read_modes(bits: &mut BitReader<'_>, modes: Modes) -> Result<[Mode; MODES], F
     })
 }
 
+// The start mode, which is one of the modes.
+fn read_start(bits: &mut BitReader<'_>, modes: Modes) -> Result<u16, Fault>
+    ensures reads { Answers (field Start None None 0 (modes.count - 1)).read bits.old result bits.new }
+    ensures within { IfOk result (λ start. start < modes.count) }
+{
+    bits.number(Field::Start, Owner::PLAN, 0, u16::from(modes.count) - 1)
+}
+
 // A whole plan, without what may follow it.
 #[tactic(auto, unfolding(crate::specs::File::plan_layout, fields::specs::Layout::part, fields::specs::Layout::whole))]
 pub(crate) fn read_plan(bits: &mut BitReader<'_>) -> Result<Plan, Fault>
@@ -146,8 +153,8 @@ pub(crate) fn read_plan(bits: &mut BitReader<'_>) -> Result<Plan, Fault>
 {
     let processors = bits.number(Field::Processors, Owner::PLAN, 0, LAST_PROCESSOR)?;
     let last = bits.number(Field::Modes, Owner::PLAN, 0, LAST_MODE)?;
-    let start = bits.number(Field::Start, Owner::PLAN, 0, last)?;
     let all = Modes::up_to(last);
+    let start = read_start(bits, all)?;
     let modes = read_modes(bits, all)?;
     Ok(Plan {
         processors: processors as u8 + 1,
