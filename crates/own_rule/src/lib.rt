@@ -24,11 +24,7 @@ impl Order<Job> for LatestFirst {
 }
 
 impl Rule for LatestFirst {
-    ghost coded = { latest_first_code };
-
     const CODE: u8 = 100;
 
-    fn number() -> u8 {
-        Self::CODE
-    }
+    ghost CODE = { latest_first_code };
 }

@@ -183,10 +183,9 @@ fn first_of_several(rt: HostRuntime) {
     assert_eq!(rt; first_under(&FileRank, &[]), None);
 }
 
-// The constant of a rule, and the same number as generic code asks for it.
+// The code of a rule, as generic code asks for it.
 fn has_code<R: Rule>(rt: &impl Abort, _rule: &R, code: u8) {
     assert_eq!(rt; R::CODE, code);
-    assert_eq!(rt; R::number(), code);
 }
 
 #[test]

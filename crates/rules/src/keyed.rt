@@ -21,13 +21,9 @@ impl Order<Job> for DeadlineMonotonic {
 }
 
 impl Rule for DeadlineMonotonic {
-    ghost coded = { deadline_monotonic_code };
-
     const CODE: u8 = 0;
 
-    fn number() -> u8 {
-        Self::CODE
-    }
+    ghost CODE = { deadline_monotonic_code };
 }
 
 // Earliest deadline: the tick at which a job is due, then task, release tick, mode.
@@ -45,13 +41,9 @@ impl Order<Job> for EarliestDeadline {
 }
 
 impl Rule for EarliestDeadline {
-    ghost coded = { earliest_deadline_code };
-
     const CODE: u8 = 1;
 
-    fn number() -> u8 {
-        Self::CODE
-    }
+    ghost CODE = { earliest_deadline_code };
 }
 
 // File rank: task, then release tick, mode, D.
@@ -69,11 +61,7 @@ impl Order<Job> for FileRank {
 }
 
 impl Rule for FileRank {
-    ghost coded = { file_rank_code };
-
     const CODE: u8 = 2;
 
-    fn number() -> u8 {
-        Self::CODE
-    }
+    ghost CODE = { file_rank_code };
 }
