@@ -1,9 +1,13 @@
 -- The first of several values under a strict total order. Assumes nothing.
-use Rattle.std.proofs.Common.{◌≡◌, ℕ, zero, suc, ◌+◌, ◌<◌, Bool, true, false, ltb, List, [], ◌∷◌, length, get_or, Some, None, sym, refl, ap, ◌∙◌, subst, le_of_suc-le-suc, not-suc-le-zero, arith}
+use Rattle.std.proofs.Common.{◌≡◌, ℕ, zero, suc, ◌+◌, ◌<◌, Bool, true, false, ltb, List, [], ◌∷◌, length, map, get_or, cond, Option, Some, None, sym, refl, ap, ◌∙◌, subst, le_of_suc-le-suc, not-suc-le-zero, arith}
+use denote.Param.Members.{Mut}
 use Rattle.std.specs.Cmp.{IsStrictWeakOrder}
-use Rattle.std.specs.List.{IsFirstBest, prefix_len}
-use Rattle.std.proofs.lemmas.List.MinMax.{IsFirstBest-takes, IsFirstBest-keeps, IsFirstBest-from_best_of}
-use Rattle.std.proofs.lemmas.List.{get_or_default}
+use Rattle.std.specs.Iterator.{ActsAsOnTwo}
+use Rattle.std.specs.Iterator.Runs.{Run, IsReduceRun}
+use Rattle.std.specs.Option.{option_map, MatchOption}
+use Rattle.std.specs.List.{IsFirstBest, best_of, prefix_len}
+use Rattle.std.proofs.lemmas.List.MinMax.{IsFirstBest-from_best_of}
+use Rattle.std.proofs.lemmas.List.{get_or_default, get_or-map, length-map, nil_from_length}
 use Rattle.std.proofs.lemmas.Bool.{both_ways, lt-ltb, le-ltb}
 use Rattle.ordering.specs.Strict.{Strict}
 use Rattle.ordering.specs.First.{rank, first, Leads, GoesFirst}
@@ -27,20 +31,6 @@ module _ {A : Type 0} {before : A → A → Bool} (law : Strict before) where
       not_before x y z p q false e c f = refl
       not_before x y z p q true e true f = absurd (both_ways (before y z) q (law.transitive y x z f e))
       not_before x y z p q true e false f = let same = law.connected x y p f in absurd (both_ways (before y z) q (ap (λ w. before w z) (sym same) ∙ e))
-
-  -- a turn of a search: the value at place i is the best of the first i + 1, or the best so far stays
-  module _ (xs : List A) (i best : ℕ) (found : IsFirstBest before xs i best) (more : i < length xs) where
-    pub best_takes : ((d : A) → true ≡ before (get_or xs i d) (get_or xs best d)) → IsFirstBest before xs (i + 1) i
-    best_takes goes = (omega arith, λ k d. (at d).1 k d, λ k d. (at d).2 k d)
-      where
-        at : (d : A) → IsFirstBest before xs (i + 1) i
-        at d = IsFirstBest-takes ranks xs i best (get_or xs i d) (get_or xs best d) found more (get_or_default xs i d _ more) (get_or_default xs best d _ (omega (arith, found.0))) (sym (goes d))
-
-    pub best_keeps : ((d : A) → false ≡ before (get_or xs i d) (get_or xs best d)) → IsFirstBest before xs (i + 1) best
-    best_keeps stays = (omega (arith, found.0), λ k d. (at d).1 k d, found.2)
-      where
-        at : (d : A) → IsFirstBest before xs (i + 1) best
-        at d = IsFirstBest-keeps ranks xs i best (get_or xs i d) (get_or xs best d) found more (get_or_default xs i d _ more) (get_or_default xs best d _ (omega (arith, found.0))) (sym (stays d))
 
   -- the best of all goes before all others
   module _ (xs : List A) (best : ℕ) (found : IsFirstBest before xs (length xs) best) where
@@ -71,6 +61,38 @@ module _ {A : Type 0} {before : A → A → Bool} (law : Strict before) where
   pub first_none : (xs : List A) → xs ≡ [] → None ≡ first before xs
   unfolding first
   first_none xs e = sym (ap (first before) e)
+
+  -- of values that stand beside their places, the place beside the best is the first
+  module _ {P : Type 0} (place : P → ℕ) (value : P → A) where
+    abbrev ahead : P → P → Bool
+    ahead p q = before (value p) (value q)
+
+    by_value : IsStrictWeakOrder ahead
+    by_value = record { one_way = λ p q. ranks.one_way (value p) (value q); chain = λ p q r. ranks.chain (value p) (value q) (value r) }
+
+    abbrev Places : List P → Type 0
+    Places ps = (k : ℕ) (d : P) → k < length ps → place (get_or ps k d) ≡ k
+
+    placed : (p : P) (ps : List P) → Places (p ∷ ps) → Some (place (best_of ahead p ps)) ≡ first before (map value (p ∷ ps))
+    placed p ps places =
+        let all = p ∷ ps in
+        let best = IsFirstBest-from_best_of by_value p ps in
+        let long : length (map value all) ≡ length all = length-map all value in
+        let at : (k : ℕ) (d : A) → k < length all → get_or (map value all) k d ≡ value (get_or all k p) = λ k d h. get_or-map value all k p d h in
+        let found : IsFirstBest before (map value all) (length (map value all)) best.0 = (
+          omega (arith, long, best.1.0),
+          (λ k d h. rw (at k d (omega (arith, long)), at best.0 d best.1.0) (best.1.1 k p (omega (arith, long)))),
+          λ k d h. rw (at k d (omega (arith, best.1.0)), at best.0 d best.1.0) (best.1.2 k p h),
+        ) in
+        ap Some (ap place (sym best.2) ∙ places best.0 p best.1.0) ∙ first_at (map value all) best.0 found
+
+    -- what `reduce` answers, with a closure that keeps the best
+    module _ {S F : Type 0} {steps : S → Option P → S → Type 0} (run : Run steps) (g : Mut F (P × (P × Unit {0})) P) (f : F) where
+      pub reduced : ActsAsOnTwo g f (λ best next. cond (ahead next best) next best) → Places run.items → (r : Option P) → MatchOption r (run.len ≡ 0) (IsReduceRun run g f) → option_map place r ≡ first before (map value run.items)
+      unfolding first
+      reduced keeps places None none = let empty : run.items ≡ [] = nil_from_length run.items (sym run.long ∙ none) in rw empty refl
+      reduced keeps places (Some y) (some, (p, ps, all, folds)) =
+          rw (folds _ keeps) (placed p ps (subst Places all places) ∙ ap (λ l. first before (map value l)) (sym all))
 
   -- what is defined as the first of several goes before all others
   pub goes_first : (xs : List A) → GoesFirst before xs (first before xs)
