@@ -39,10 +39,7 @@ impl<A: Rule, B: Rule, C: Rule> ByMode<A, B, C> {
     fn code(&self, mode: u8) -> Option<u8>
         ensures { result ≡ slice_index_or self.now.codes mode None }
     {
-        match self.codes.get(usize::from(mode)) {
-            Some(code) => *code,
-            None => None,
-        }
+        self.codes.get(usize::from(mode)).copied().flatten()
     }
 }
 
