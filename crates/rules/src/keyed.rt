@@ -1,10 +1,21 @@
 // The rules that compare keys in turn: the first that differs decides, and a smaller number goes first.
+ghost use Rattle.std.specs.Prelude.{◌≡◌};
+ghost use Rattle.std.specs.Ordering.{partial_lt};
+ghost use Rattle.std.specs.Fn.{FnReturnsAt};
 ghost use Rattle.rules.specs.Orders.{deadline_monotonic, deadline_monotonic_code, earliest_deadline, earliest_deadline_code, file_rank, file_rank_code};
 ghost use Rattle.rules.specs.Lawful.{deadline_monotonic_strict, earliest_deadline_strict, file_rank_strict};
 
 use crate::jobs::Job;
 use crate::rule::Rule;
 use ordering::Order;
+
+// Whether the keys of a job are smaller than those of another.
+fn goes_by_keys<K: PartialOrd + Drop, F: Fn(&Job) -> K>(keys: F, a: &Job, b: &Job) -> bool
+    requires { F.IsAlwaysCallable keys }
+    ensures { (k : K) × (l : K) × FnReturnsAt F.Fn keys a.now k × FnReturnsAt F.Fn keys b.now l × (result ≡ partial_lt K.partial_cmp k l) }
+{
+    keys(a) < keys(b)
+}
 
 // Deadline monotonic: D, then task, release tick, mode.
 #[derive(Clone, Copy)]
@@ -16,7 +27,7 @@ impl Order<Job> for DeadlineMonotonic {
     ghost strict = { λ _. deadline_monotonic_strict };
 
     fn goes_before(&self, a: &Job, b: &Job) -> bool {
-        (a.deadline, a.task, a.release, a.mode) < (b.deadline, b.task, b.release, b.mode)
+        goes_by_keys(|job| (job.deadline, job.task, job.release, job.mode), a, b)
     }
 }
 
@@ -36,7 +47,7 @@ impl Order<Job> for EarliestDeadline {
     ghost strict = { λ _. earliest_deadline_strict };
 
     fn goes_before(&self, a: &Job, b: &Job) -> bool {
-        (a.due(), a.task, a.release, a.mode) < (b.due(), b.task, b.release, b.mode)
+        goes_by_keys(|job| (job.due(), job.task, job.release, job.mode), a, b)
     }
 }
 
@@ -56,7 +67,7 @@ impl Order<Job> for FileRank {
     ghost strict = { λ _. file_rank_strict };
 
     fn goes_before(&self, a: &Job, b: &Job) -> bool {
-        (a.task, a.release, a.mode, a.deadline) < (b.task, b.release, b.mode, b.deadline)
+        goes_by_keys(|job| (job.task, job.release, job.mode, job.deadline), a, b)
     }
 }
 
