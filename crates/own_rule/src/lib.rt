@@ -10,7 +10,7 @@ use ordering::Order;
 use rules::{FileRank, Job, Rule};
 
 // Latest first: the job that was released last goes first, and jobs that were released at one tick go by file rank.
-#[derive(Clone, Copy)]
+#[derive(Clone, Copy, Debug, PartialEq, Eq, Hash)]
 pub struct LatestFirst;
 
 impl Order<Job> for LatestFirst {

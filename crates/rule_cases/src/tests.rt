@@ -84,7 +84,7 @@ fn plan_with(codes: [u8; 3]) -> Plan {
 }
 
 // By-mode for such a plan, with the rules in the seats in the order of their codes.
-fn in_order_of_codes(codes: [u8; 3]) -> ByMode<DeadlineMonotonic, EarliestDeadline, FileRank> {
+fn by_mode_with(codes: [u8; 3]) -> ByMode<DeadlineMonotonic, EarliestDeadline, FileRank> {
     ByMode::new(
         &plan_with(codes),
         DeadlineMonotonic,
@@ -110,7 +110,7 @@ fn each_mode_by_its_rule<R: Rule>(rt: &impl Abort, rule: &R) {
 
 #[test]
 fn by_mode(rt: HostRuntime) {
-    let rule = in_order_of_codes([0, 1, 2]);
+    let rule = by_mode_with([0, 1, 2]);
     each_mode_by_its_rule(&rt, &rule);
     // Modes that are not in the plan go by the third seat, here file rank.
     let rows = [
@@ -151,8 +151,8 @@ fn by_mode_where_no_seat_has_the_code(rt: HostRuntime) {
 // deadline monotonic and by file rank.
 #[test]
 fn by_mode_where_two_seats_have_the_code(rt: HostRuntime) {
-    let first = in_order_of_codes([0, 0, 0]);
-    let second = in_order_of_codes([2, 2, 2]);
+    let first = by_mode_with([0, 0, 0]);
+    let second = by_mode_with([2, 2, 2]);
     let rule = ByMode::new(&plan_with([3, 3, 3]), first, second, FileRank);
     agrees(&rt, &rule, &[ahead(job(0, 9, 50, 4), job(0, 0, 0, 5))]);
 }

@@ -18,7 +18,7 @@ fn goes_by_keys<K: PartialOrd + Drop, F: Fn(&Job) -> K>(keys: F, a: &Job, b: &Jo
 }
 
 // Deadline monotonic: D, then task, release tick, mode.
-#[derive(Clone, Copy)]
+#[derive(Clone, Copy, Debug, PartialEq, Eq, Hash)]
 pub struct DeadlineMonotonic;
 
 impl Order<Job> for DeadlineMonotonic {
@@ -38,7 +38,7 @@ impl Rule for DeadlineMonotonic {
 }
 
 // Earliest deadline: the tick at which a job is due, then task, release tick, mode.
-#[derive(Clone, Copy)]
+#[derive(Clone, Copy, Debug, PartialEq, Eq, Hash)]
 pub struct EarliestDeadline;
 
 impl Order<Job> for EarliestDeadline {
@@ -58,7 +58,7 @@ impl Rule for EarliestDeadline {
 }
 
 // File rank: task, then release tick, mode, D.
-#[derive(Clone, Copy)]
+#[derive(Clone, Copy, Debug, PartialEq, Eq, Hash)]
 pub struct FileRank;
 
 impl Order<Job> for FileRank {
