@@ -20,6 +20,7 @@ pub(crate) fn rule_codes(plan: &Plan) -> [Option<u8>; MODES]
     ensures value { result ≡ rule_codes (plan_of plan.now) }
     ensures law { CodesOf (plan_of plan.now) result }
 {
+    // Not `plan.modes()`, of which it is not known here that it has at most `MODES`.
     let modes = first(&plan.modes, usize::from(plan.count));
     array::from_fn(|mode| rule_code(modes, mode))
 }
