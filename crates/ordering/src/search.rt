@@ -4,7 +4,7 @@ ghost use Rattle.ordering.specs.First.{first, GoesFirst};
 
 use crate::order::Order;
 
-// Of two values beside their places, the one that goes first, and the former where neither goes before the other.
+// The first of two values that stand beside their places: the next, if it goes before the best so far, and else the best so far.
 fn first_of_two<'a, T, O: Order<T>>(
     order: &O,
     best: (usize, &'a T),
