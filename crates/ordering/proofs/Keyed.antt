@@ -1,5 +1,5 @@
 -- Orders that compare keys in turn are strict total orders, where the keys determine the value. Assumes nothing.
-use Rattle.std.proofs.Common.{◌≡◌, ℕ, true, false, List, [], ◌∷◌, get_or, refl, ap, ap₂, arith}
+use Rattle.std.proofs.Common.{◌≡◌, ℕ, true, false, List, [], ◌∷◌, get_or, refl, ap, arith}
 use Rattle.std.proofs.lemmas.Bool.{true≢false, false≢true}
 use Rattle.std.proofs.lemmas.Bool.Decides.{nat_tests}
 use Rattle.ordering.specs.Strict.{Strict}
@@ -13,11 +13,7 @@ smaller_connected : (xs ys : List ℕ) → smaller xs ys ≡ false → smaller y
 smaller_connected [] [] p q = refl
 smaller_connected [] (y ∷ ys) p q = absurd (true≢false p)
 smaller_connected (x ∷ xs) [] p q = absurd (true≢false q)
-smaller_connected (x ∷ xs) (y ∷ ys) p q =
-    let same : x ≡ y = grind (arith, nat_tests) in
-    let less : smaller xs ys ≡ false = grind (arith, nat_tests) in
-    let more : smaller ys xs ≡ false = grind (arith, nat_tests) in
-    ap₂ {C = List ℕ} (λ z zs. z ∷ zs) same (smaller_connected xs ys less more)
+smaller_connected (x ∷ xs) (y ∷ ys) p q = let rest = smaller_connected xs ys in grind (arith, nat_tests)
 
 smaller_one_way : (xs ys : List ℕ) → smaller xs ys ≡ true → smaller ys xs ≡ false
 smaller_one_way [] [] h = refl

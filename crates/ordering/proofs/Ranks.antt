@@ -1,22 +1,21 @@
 -- How many of several values go before one. Assumes nothing.
-use Rattle.std.proofs.Common.{◌≡◌, ℕ, ◌<◌, ◌≤◌, Bool, true, false, cond, List, length, get_or, mul-zero, arith}
-use Rattle.std.specs.List.{AllByRecursion}
-use Rattle.std.proofs.ByRecursion.{all_from_every, All-weaker, sum_by_le}
+use Rattle.std.proofs.Common.{◌≡◌, ℕ, suc, ◌<◌, Bool, true, false, cond, List, [], ◌∷◌, length, get_or, refl, arith}
 use Rattle.std.proofs.lemmas.List.Sums.{get_or-le-sum_by}
 use Rattle.ordering.specs.First.{rank}
 
-module _ {A : Type 0} (before : A → A → Bool) (xs : List A) (x : A) where
+module _ {A : Type 0} (before : A → A → Bool) (x : A) where
   -- none goes before it
-  pub rank_none : ((k : ℕ) (d : A) → k < length xs → before (get_or xs k d) x ≡ false) → rank before xs x ≡ 0
+  pub rank_none : (xs : List A) → ((k : ℕ) (d : A) → k < length xs → before (get_or xs k d) x ≡ false) → rank before xs x ≡ 0
   unfolding rank
-  rank_none none =
-      let each : AllByRecursion (λ y. before y x ≡ false) xs = all_from_every (λ y. before y x ≡ false) xs (λ k d low high. none k d high) in
-      let few = sum_by_le (λ y. cond (before y x) 1 0) 0 xs (All-weaker (λ y. before y x ≡ false) (λ y. cond (before y x) 1 0 ≤ 0) (λ y e. rw e (omega arith)) xs each) in
-      omega (arith, few, mul-zero (length xs))
+  rank_none [] none = refl
+  rank_none (y ∷ ys) none =
+      let this : before y x ≡ false = none 0 y (omega arith) in
+      let rest = rank_none ys (λ k d h. none (suc k) d (omega (arith, h))) in
+      rw (this, rest) refl
 
   -- one of them goes before it
-  pub rank_some : (k : ℕ) (d : A) → k < length xs → before (get_or xs k d) x ≡ true → 0 < rank before xs x
+  pub rank_some : (xs : List A) (k : ℕ) (d : A) → k < length xs → before (get_or xs k d) x ≡ true → 0 < rank before xs x
   unfolding rank
-  rank_some k d within goes =
+  rank_some xs k d within goes =
       let one = get_or-le-sum_by (λ y. cond (before y x) 1 0) xs k d within in
       omega (arith, rw goes at one)

@@ -10,7 +10,7 @@ use ordering::Order;
 use rules::{FileRank, Job, Rule};
 
 // Latest first: the job that was released last goes first, and jobs that were released at one tick go by file rank.
-#[derive(Clone, Copy)]
+#[derive(Clone, Copy, Debug, PartialEq, Eq, Hash)]
 pub struct LatestFirst;
 
 impl Order<Job> for LatestFirst {
@@ -24,11 +24,7 @@ impl Order<Job> for LatestFirst {
 }
 
 impl Rule for LatestFirst {
-    ghost coded = { latest_first_code };
-
     const CODE: u8 = 100;
 
-    fn number() -> u8 {
-        Self::CODE
-    }
+    ghost CODE = { latest_first_code };
 }

@@ -1,21 +1,14 @@
 // The rows of a table, and how a rule is asked for each.
 use rules::{Job, Rule};
+use std::cmp::Ordering;
 use std::process::Abort;
 
-// Which of two jobs goes first.
-#[derive(Clone, Copy)]
-enum Goes {
-    First,
-    Second,
-    Neither,
-}
-
-// Two jobs, and which goes first.
+// Two jobs, and how they are ordered: `Less` where the first goes first, `Greater` where the second does, and else `Equal`.
 #[derive(Clone, Copy)]
 pub(crate) struct Row {
     a: Job,
     b: Job,
-    goes: Goes,
+    order: Ordering,
 }
 
 // A job of a task of a mode, with its release tick and D.
@@ -33,7 +26,7 @@ pub(crate) fn ahead(a: Job, b: Job) -> Row {
     Row {
         a,
         b,
-        goes: Goes::First,
+        order: Ordering::Less,
     }
 }
 
@@ -42,7 +35,7 @@ pub(crate) fn behind(a: Job, b: Job) -> Row {
     Row {
         a,
         b,
-        goes: Goes::Second,
+        order: Ordering::Greater,
     }
 }
 
@@ -51,20 +44,14 @@ pub(crate) fn itself(a: Job) -> Row {
     Row {
         a,
         b: a,
-        goes: Goes::Neither,
+        order: Ordering::Equal,
     }
 }
 
 // The rule answers both ways round as each row says.
 pub(crate) fn agrees<R: Rule>(rt: &impl Abort, rule: &R, rows: &[Row]) {
     for row in rows {
-        assert_eq!(rt;
-            rule.goes_before(&row.a, &row.b),
-            matches!(row.goes, Goes::First)
-        );
-        assert_eq!(rt;
-            rule.goes_before(&row.b, &row.a),
-            matches!(row.goes, Goes::Second)
-        );
+        assert_eq!(rt; rule.goes_before(&row.a, &row.b), row.order.is_lt());
+        assert_eq!(rt; rule.goes_before(&row.b, &row.a), row.order.is_gt());
     }
 }

@@ -3,7 +3,7 @@ use crate::rows::*;
 use ordering::first_in_order;
 use own_rule::LatestFirst;
 use plan::{MODES, Mode, Plan};
-use rules::{ByMode, DeadlineMonotonic, EarliestDeadline, FileRank, Job, Rule};
+use rules::{ByMode, DeadlineMonotonic, EarliestDeadline, FileRank, Rule};
 use std::process::Abort;
 
 // D, then task, release tick, mode.
@@ -72,8 +72,8 @@ fn latest_first(rt: HostRuntime) {
 // A plan whose modes have these codes.
 fn plan_with(codes: [u8; 3]) -> Plan {
     let mut modes = [Mode::BLANK; MODES];
-    for mode in 0..3 {
-        modes[mode].rule = codes[mode];
+    for (mode, code) in modes.iter_mut().zip(codes) {
+        mode.rule = code;
     }
     Plan {
         processors: 1,
@@ -81,6 +81,16 @@ fn plan_with(codes: [u8; 3]) -> Plan {
         count: 3,
         modes,
     }
+}
+
+// By-mode for such a plan, with the rules in the seats in the order of their codes.
+fn by_mode_with(codes: [u8; 3]) -> ByMode<DeadlineMonotonic, EarliestDeadline, FileRank> {
+    ByMode::new(
+        &plan_with(codes),
+        DeadlineMonotonic,
+        EarliestDeadline,
+        FileRank,
+    )
 }
 
 // Modes 0, 1 and 2 go by deadline monotonic, earliest deadline and file rank, whatever seats these are in. In each of the first
@@ -100,12 +110,7 @@ fn each_mode_by_its_rule<R: Rule>(rt: &impl Abort, rule: &R) {
 
 #[test]
 fn by_mode(rt: HostRuntime) {
-    let rule = ByMode::new(
-        &plan_with([0, 1, 2]),
-        DeadlineMonotonic,
-        EarliestDeadline,
-        FileRank,
-    );
+    let rule = by_mode_with([0, 1, 2]);
     each_mode_by_its_rule(&rt, &rule);
     // Modes that are not in the plan go by the third seat, here file rank.
     let rows = [
@@ -146,25 +151,10 @@ fn by_mode_where_no_seat_has_the_code(rt: HostRuntime) {
 // deadline monotonic and by file rank.
 #[test]
 fn by_mode_where_two_seats_have_the_code(rt: HostRuntime) {
-    let first = ByMode::new(
-        &plan_with([0, 0, 0]),
-        DeadlineMonotonic,
-        EarliestDeadline,
-        FileRank,
-    );
-    let second = ByMode::new(
-        &plan_with([2, 2, 2]),
-        DeadlineMonotonic,
-        EarliestDeadline,
-        FileRank,
-    );
+    let first = by_mode_with([0, 0, 0]);
+    let second = by_mode_with([2, 2, 2]);
     let rule = ByMode::new(&plan_with([3, 3, 3]), first, second, FileRank);
     agrees(&rt, &rule, &[ahead(job(0, 9, 50, 4), job(0, 0, 0, 5))]);
-}
-
-// The place of the job that a rule puts first.
-fn first_under<R: Rule>(rule: &R, jobs: &[Job]) -> Option<usize> {
-    first_in_order(rule, jobs)
 }
 
 // Each rule puts another of these jobs first: those with the least D, due tick and task, and with the latest release.
@@ -176,33 +166,23 @@ fn first_of_several(rt: HostRuntime) {
         job(0, 1, 14, 12),
         job(0, 0, 10, 30),
     ];
-    assert_eq!(rt; first_under(&DeadlineMonotonic, &jobs), Some(1));
-    assert_eq!(rt; first_under(&EarliestDeadline, &jobs), Some(0));
-    assert_eq!(rt; first_under(&FileRank, &jobs), Some(3));
-    assert_eq!(rt; first_under(&LatestFirst, &jobs), Some(2));
-    assert_eq!(rt; first_under(&FileRank, &[]), None);
+    assert_eq!(rt; first_in_order(&DeadlineMonotonic, &jobs), Some(1));
+    assert_eq!(rt; first_in_order(&EarliestDeadline, &jobs), Some(0));
+    assert_eq!(rt; first_in_order(&FileRank, &jobs), Some(3));
+    assert_eq!(rt; first_in_order(&LatestFirst, &jobs), Some(2));
+    assert_eq!(rt; first_in_order(&FileRank, &[]), None);
 }
 
-// The constant of a rule, and the same number as generic code asks for it.
-fn has_code<R: Rule>(rt: &impl Abort, _rule: &R, code: u8) {
+// A rule has this code, as generic code asks for it.
+fn has_code<R: Rule>(rt: &impl Abort, code: u8) {
     assert_eq!(rt; R::CODE, code);
-    assert_eq!(rt; R::number(), code);
 }
 
 #[test]
 fn codes(rt: HostRuntime) {
-    has_code(&rt, &DeadlineMonotonic, 0);
-    has_code(&rt, &EarliestDeadline, 1);
-    has_code(&rt, &FileRank, 2);
-    has_code(
-        &rt,
-        &ByMode::new(
-            &plan_with([0, 1, 2]),
-            DeadlineMonotonic,
-            EarliestDeadline,
-            FileRank,
-        ),
-        3,
-    );
-    has_code(&rt, &LatestFirst, 100);
+    has_code::<DeadlineMonotonic>(&rt, 0);
+    has_code::<EarliestDeadline>(&rt, 1);
+    has_code::<FileRank>(&rt, 2);
+    has_code::<ByMode<DeadlineMonotonic, EarliestDeadline, FileRank>>(&rt, 3);
+    has_code::<LatestFirst>(&rt, 100);
 }

@@ -1,10 +1,11 @@
 -- By-mode goes as it is said to, case by case. Assumes nothing.
-use Rattle.std.proofs.Common.{◌≡◌, ℕ, Bool, length, Option, None, inl, inr, ap, ◌∙◌}
+use Rattle.std.proofs.Common.{◌≡◌, ℕ, Bool, length, Option, None, inl, inr, ap, refl, arith, ◌∙◌}
 use Rattle.std.specs.Prelude.{slice_index_or}
-use Rattle.std.proofs.lemmas.Bool.{eq-eqb, ne_eqb, cond-true, cond-false, cases_lt}
+use Rattle.std.proofs.lemmas.Bool.Decides.{nat_tests}
+use Rattle.std.proofs.lemmas.Bool.{cases_lt}
 use Rattle.ordering.specs.Groups.{ascending}
 use Rattle.ordering.proofs.Grouped.{ascending_strict, in_one_group, in_two_groups}
-use Rattle.plan.specs.Plan.{Plan, mode_at}
+use Rattle.plan.specs.Plan.{Plan}
 use Rattle.rules.specs.declared.jobs.Job.{Job}
 use Rattle.rules.specs.ByMode.{Seat, rule_codes, deciding, by_mode, HasCode, GoesByMode}
 use Rattle.rules.specs.ByModeStrict.{within}
@@ -25,21 +26,15 @@ module _ (p : Plan) (first second third : Seat) where
   -- the seat that decides, case by case
   module _ (j : ℕ) where
     decides_first : HasCode p j first → deciding first second third (code j) ≡ first
-    decides_first has = ap (deciding first second third) (code_some p j has.0) ∙ cond-true _ _ _ (eq-eqb (mode_at p j).rule first.code has.1)
+    decides_first has = rw (code_some p j has.0) (grind (arith, nat_tests))
 
     decides_second : (HasCode p j first → ⊥) → HasCode p j second → deciding first second third (code j) ≡ second
-    decides_second not_first has =
-        ap (deciding first second third) (code_some p j has.0)
-        ∙ cond-false _ _ _ (ne_eqb (mode_at p j).rule first.code (λ e. not_first (has.0, e)))
-        ∙ cond-true _ _ _ (eq-eqb (mode_at p j).rule second.code has.1)
+    decides_second not_first has = rw (code_some p j has.0) (grind (arith, nat_tests))
 
     decides_third : (HasCode p j first → ⊥) → (HasCode p j second → ⊥) → deciding first second third (code j) ≡ third
     decides_third not_first not_second = elim (cases_lt j (length p.modes)) [
-      | inl is_mode ↦
-          ap (deciding first second third) (code_some p j is_mode)
-          ∙ cond-false _ _ _ (ne_eqb (mode_at p j).rule first.code (λ e. not_first (is_mode, e)))
-          ∙ cond-false _ _ _ (ne_eqb (mode_at p j).rule second.code (λ e. not_second (is_mode, e)))
-      | inr past ↦ ap (deciding first second third) (code_none p j past)
+      | inl is_mode ↦ rw (code_some p j is_mode) (grind (arith, nat_tests))
+      | inr past ↦ rw (code_none p j past) refl
     ]
 
   -- the order, case by case

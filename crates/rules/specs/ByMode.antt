@@ -1,5 +1,5 @@
 -- By-mode: three rules in seats, of which one decides for each mode, by the codes of a plan. Assumes nothing.
-use Rattle.std.specs.Prelude.{◌≡◌, ℕ, ◌<◌, ◌≤◌, Bool, cond, ◌≢◌, List, map, length, Some, None, Option, ◌==◌, nat_lt, slice_index_or}
+use Rattle.std.specs.Prelude.{◌≡◌, ℕ, ◌<◌, ◌≤◌, Bool, if◌then◌else◌, ◌≢◌, List, map, length, Some, None, Option, ◌==◌, nat_lt, slice_index_or}
 use Rattle.ordering.specs.Groups.{ascending, by_group}
 use Rattle.plan.specs.Held.{padded}
 use Rattle.plan.specs.Plan.{Plan, mode_at}
@@ -21,7 +21,7 @@ rule_codes p = padded most_modes None (map (λ m. Some m.rule) p.modes)
 -- the seat that decides for a mode with this code: the first seat that has it, and the third where none has it or there is no code
 abbrev pub deciding : Seat → Seat → Seat → Option ℕ → Seat
 deciding first second third None = third
-deciding first second third (Some code) = cond (code == first.code) first (cond (code == second.code) second third)
+deciding first second third (Some code) = if code == first.code then first else if code == second.code then second else third
 
 -- the order: jobs of different modes go by mode number, and jobs of one mode by the seat that decides for it
 abbrev pub by_mode : Seat → Seat → Seat → List (Option ℕ) → Job → Job → Bool

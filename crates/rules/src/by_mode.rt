@@ -11,12 +11,9 @@ use crate::rule::Rule;
 use ordering::Order;
 use plan::{MODES, Plan};
 
-// The code of this rule.
-const BY_MODE: u8 = 3;
-
 // Three rules in seats, and the codes of a plan's modes. Jobs of different modes go by mode number. Jobs of one mode go by the
 // first seat whose rule has the mode's code; if no seat has it, or the plan has no such mode, the third seat decides.
-#[derive(Drop)]
+#[derive(Debug, Drop)]
 pub struct ByMode<A, B, C> {
     first: A,
     second: B,
@@ -42,15 +39,12 @@ impl<A: Rule, B: Rule, C: Rule> ByMode<A, B, C> {
     fn code(&self, mode: u8) -> Option<u8>
         ensures { result ≡ slice_index_or self.now.codes mode None }
     {
-        match self.codes.get(usize::from(mode)) {
-            Some(code) => *code,
-            None => None,
-        }
+        self.codes.get(usize::from(mode)).copied().flatten()
     }
 }
 
 impl<A: Rule, B: Rule, C: Rule> Order<Job> for ByMode<A, B, C> {
-    ghost before = { λ rule. by_mode (seated A.Rule.coded (A.Order.before rule.first)) (seated B.Rule.coded (B.Order.before rule.second)) (seated C.Rule.coded (C.Order.before rule.third)) rule.codes };
+    ghost before = { λ rule. by_mode (seated A.Rule.CODE (A.Order.before rule.first)) (seated B.Rule.CODE (B.Order.before rule.second)) (seated C.Rule.CODE (C.Order.before rule.third)) rule.codes };
 
     ghost strict = { λ order. by_mode_strict _ _ _ order.codes (A.Order.strict order.first) (B.Order.strict order.second) (C.Order.strict order.third) };
 
@@ -59,9 +53,9 @@ impl<A: Rule, B: Rule, C: Rule> Order<Job> for ByMode<A, B, C> {
             return a.mode < b.mode;
         }
         let code = self.code(a.mode);
-        if code == Some(A::number()) {
+        if code == Some(A::CODE) {
             self.first.goes_before(a, b)
-        } else if code == Some(B::number()) {
+        } else if code == Some(B::CODE) {
             self.second.goes_before(a, b)
         } else {
             self.third.goes_before(a, b)
@@ -70,12 +64,7 @@ impl<A: Rule, B: Rule, C: Rule> Order<Job> for ByMode<A, B, C> {
 }
 
 impl<A: Rule, B: Rule, C: Rule> Rule for ByMode<A, B, C> {
-    ghost coded = { by_mode_code };
+    const CODE: u8 = 3;
 
-    const CODE: u8 = BY_MODE;
-
-    // Not `Self::CODE`: in a generic impl that has no value to a proof.
-    fn number() -> u8 {
-        BY_MODE
-    }
+    ghost CODE = { by_mode_code };
 }

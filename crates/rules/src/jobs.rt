@@ -4,7 +4,7 @@ ghost use Rattle.rules.specs.Orders.{due};
 
 // A job of a task of a mode: the tick of its release, and the task's relative deadline D. Jobs whose fields are all equal are the
 // same job.
-#[derive(Clone, Copy, PartialEq, Eq)]
+#[derive(Clone, Copy, Debug, PartialEq, Eq, Hash)]
 pub struct Job {
     pub mode: u8,
     pub task: u8,

@@ -1,4 +1,7 @@
 // The rules that compare keys in turn: the first that differs decides, and a smaller number goes first.
+ghost use Rattle.std.specs.Prelude.{◌≡◌};
+ghost use Rattle.std.specs.Ordering.{partial_lt};
+ghost use Rattle.std.specs.Fn.{FnReturnsAt};
 ghost use Rattle.rules.specs.Orders.{deadline_monotonic, deadline_monotonic_code, earliest_deadline, earliest_deadline_code, file_rank, file_rank_code};
 ghost use Rattle.rules.specs.Lawful.{deadline_monotonic_strict, earliest_deadline_strict, file_rank_strict};
 
@@ -6,8 +9,16 @@ use crate::jobs::Job;
 use crate::rule::Rule;
 use ordering::Order;
 
+// Whether the keys of a job are smaller than those of another.
+fn goes_by_keys<K: PartialOrd + Drop, F: Fn(&Job) -> K>(keys: F, a: &Job, b: &Job) -> bool
+    requires { F.IsAlwaysCallable keys }
+    ensures { (k : K) × (l : K) × FnReturnsAt F.Fn keys a.now k × FnReturnsAt F.Fn keys b.now l × (result ≡ partial_lt K.partial_cmp k l) }
+{
+    keys(a) < keys(b)
+}
+
 // Deadline monotonic: D, then task, release tick, mode.
-#[derive(Clone, Copy)]
+#[derive(Clone, Copy, Debug, PartialEq, Eq, Hash)]
 pub struct DeadlineMonotonic;
 
 impl Order<Job> for DeadlineMonotonic {
@@ -16,22 +27,18 @@ impl Order<Job> for DeadlineMonotonic {
     ghost strict = { λ _. deadline_monotonic_strict };
 
     fn goes_before(&self, a: &Job, b: &Job) -> bool {
-        (a.deadline, a.task, a.release, a.mode) < (b.deadline, b.task, b.release, b.mode)
+        goes_by_keys(|job| (job.deadline, job.task, job.release, job.mode), a, b)
     }
 }
 
 impl Rule for DeadlineMonotonic {
-    ghost coded = { deadline_monotonic_code };
-
     const CODE: u8 = 0;
 
-    fn number() -> u8 {
-        Self::CODE
-    }
+    ghost CODE = { deadline_monotonic_code };
 }
 
 // Earliest deadline: the tick at which a job is due, then task, release tick, mode.
-#[derive(Clone, Copy)]
+#[derive(Clone, Copy, Debug, PartialEq, Eq, Hash)]
 pub struct EarliestDeadline;
 
 impl Order<Job> for EarliestDeadline {
@@ -40,22 +47,18 @@ impl Order<Job> for EarliestDeadline {
     ghost strict = { λ _. earliest_deadline_strict };
 
     fn goes_before(&self, a: &Job, b: &Job) -> bool {
-        (a.due(), a.task, a.release, a.mode) < (b.due(), b.task, b.release, b.mode)
+        goes_by_keys(|job| (job.due(), job.task, job.release, job.mode), a, b)
     }
 }
 
 impl Rule for EarliestDeadline {
-    ghost coded = { earliest_deadline_code };
-
     const CODE: u8 = 1;
 
-    fn number() -> u8 {
-        Self::CODE
-    }
+    ghost CODE = { earliest_deadline_code };
 }
 
 // File rank: task, then release tick, mode, D.
-#[derive(Clone, Copy)]
+#[derive(Clone, Copy, Debug, PartialEq, Eq, Hash)]
 pub struct FileRank;
 
 impl Order<Job> for FileRank {
@@ -64,16 +67,12 @@ impl Order<Job> for FileRank {
     ghost strict = { λ _. file_rank_strict };
 
     fn goes_before(&self, a: &Job, b: &Job) -> bool {
-        (a.task, a.release, a.mode, a.deadline) < (b.task, b.release, b.mode, b.deadline)
+        goes_by_keys(|job| (job.task, job.release, job.mode, job.deadline), a, b)
     }
 }
 
 impl Rule for FileRank {
-    ghost coded = { file_rank_code };
-
     const CODE: u8 = 2;
 
-    fn number() -> u8 {
-        Self::CODE
-    }
+    ghost CODE = { file_rank_code };
 }

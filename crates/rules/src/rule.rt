@@ -1,5 +1,5 @@
 // What a priority rule is.
-ghost use Rattle.std.specs.Prelude.{◌≡◌, ℕ};
+ghost use Rattle.std.specs.Prelude.{ℕ};
 
 use crate::jobs::Job;
 use ordering::Order;
@@ -7,12 +7,8 @@ use ordering::Order;
 // A priority rule tells of two jobs whether the first goes before the second. It means one order over all jobs: its `Order`, with
 // the laws that every order keeps. And it has a code of its own. The crate `own_rule` shows how to write one.
 pub trait Rule: Order<Job> {
-    // The code, as clauses name it: the constant has no value there.
-    ghost coded: { ℕ };
-
+    // The code, and the same number as clauses name it.
     const CODE: u8;
 
-    // The code, as code that is generic in the rule asks for it. An impl answers `Self::CODE`.
-    fn number() -> u8
-        ensures { result ≡ coded };
+    ghost CODE: { ℕ };
 }
