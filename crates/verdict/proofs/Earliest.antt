@@ -1,10 +1,10 @@
 -- The enabling deadlines of tasks in tables, and the earliest of several. Assumes nothing.
-use Rattle.std.specs.Prelude.{◌≡◌, ℕ, ◌+◌, ◌<◌, ◌≤◌, true, List, [], ◌∷◌, ◌++◌, map, length, get_or, take, Some, None, Option, ◌≢◌, slice_index, slice_index_or, slice_set, refl}
+use Rattle.std.specs.Prelude.{◌≡◌, ℕ, ◌<◌, ◌≤◌, true, List, map, length, get_or, take, Some, None, Option, ◌≢◌, slice_index, slice_index_or, refl}
 use Rattle.std.proofs.Common.{inl, inr, sym, ap₂, ◌∙◌, arith, zero-add}
 use Rattle.std.proofs.Math.Path.{ap, subst}
 use Rattle.std.specs.List.{range_with_len}
-use Rattle.std.proofs.lemmas.List.FromFn.{length-map-range_with_len, get_or-map-range_with_len, map-range_with_len_more}
-use Rattle.std.proofs.lemmas.List.{get_or-map, get_or-take, take_more_set}
+use Rattle.std.proofs.lemmas.List.FromFn.{length-map-range_with_len, get_or-map-range_with_len, fill_by_all}
+use Rattle.std.proofs.lemmas.List.{length-map, length-take, get_or-map, get_or-take}
 use Rattle.std.specs.Option.{unwrap_or}
 use Rattle.std.proofs.lemmas.Bool.{cases_eq}
 use Rattle.std.proofs.lemmas.Bool.Decides.{nat_tests}
@@ -12,7 +12,7 @@ use Rattle.ordering.proofs.Firsts.{goes_first}
 use Rattle.ordering.specs.First.{first, Leads, GoesFirst}
 use Rattle.ordering.specs.Keys.{by_keys}
 use Rattle.plan.specs.declared.tables.Task.{Task as TaskTable}
-use Rattle.plan.specs.Held.{task_of}
+use Rattle.plan.specs.Held.{blank_task, task_of}
 use Rattle.plan.specs.Plan.{Task, no_task}
 use Rattle.verdict.specs.declared.deadlines.Deadline.{Deadline}
 use Rattle.verdict.specs.EarlierFirst.{deadlines_strict}
@@ -25,11 +25,17 @@ module _ (modes i : ℕ) (is_mode : i < modes) (tasks : List TaskTable) where
       ap (λ t. slice_index t.enabling i) (get_or-map (task_of modes) tasks k d no_task within)
       ∙ get_or-take modes (get_or tasks k d).enabling i 0 is_mode
 
-  -- one deadline more
-  pub deadlines_more : (k : ℕ) (d : TaskTable) (found : List Deadline) (one : Deadline) → k < length tasks → k < length found → one.ticks ≡ slice_index (get_or tasks k d).enabling i → one.task ≡ k → take k found ≡ map (task_deadline i (map (task_of modes) tasks)) (range_with_len 0 k) → take (k + 1) (slice_set found k one) ≡ map (task_deadline i (map (task_of modes) tasks)) (range_with_len 0 (k + 1))
-  deadlines_more k d found one within room ticks task so_far =
-      let held : one ≡ task_deadline i (map (task_of modes) tasks) k = let e = ticks ∙ sym (deadline_held k d within) in λ j. record { ticks = e j; task = task j } in
-      take_more_set found k one room ∙ (λ j. so_far j ++ held j ∷ []) ∙ sym (map-range_with_len_more (task_deadline i (map (task_of modes) tasks)) 0 k k (zero-add k))
+  -- the first places have the deadlines of the tasks, where each has the deadline of its task
+  pub deadlines_held : (found : List Deadline) → length tasks ≤ length found → ((k : ℕ) → k < length tasks → get_or found k no_deadline ≡ record { ticks = slice_index (get_or tasks k blank_task).enabling i; task = k }) → take (length tasks) found ≡ deadlines i (map (task_of modes) tasks)
+  deadlines_held found room each =
+      let ts = map (task_of modes) tasks in
+      let n = length tasks in
+      fill_by_all (task_deadline i ts) (take n found) n no_deadline (length-take n found ∙ omega arith) (λ k within.
+      let at = get_or-take n found k no_deadline within ∙ each k within in
+      let ticks = ap (λ d. d.ticks) at ∙ sym (deadline_held k blank_task within) in
+      let task = ap (λ d. d.task) at in
+      λ j. record { ticks = ticks j; task = task j })
+      ∙ ap (λ m. map (task_deadline i ts) (range_with_len 0 m)) (sym (length-map tasks (task_of modes)))
 
 -- the earliest of several stands at their first place
 pub earliest_at : (ds : List Deadline) (place : ℕ) → Some place ≡ first (by_keys deadline_keys) ds → slice_index_or ds place no_deadline ≡ earliest_of ds

@@ -4,6 +4,7 @@ use native.Mathlib.Nat.{le-max_left, le-max_right, max-le}
 use Rattle.std.proofs.lemmas.Nat.{div-add-mod', mod_below, le-div, div_below, mul-le}
 use Rattle.std.proofs.lemmas.Bool.{cases_lt, cond-true, cond-false, le-leb, lt-leb}
 use Rattle.verdict.specs.Bound.{work, largest, bound, Longest}
+use Rattle.verdict.proofs.Works.{work_each, work_below}
 
 -- a running maximum is at least where it began and each number, and at most what all of these are at most
 most_start : (a : ℕ) (cs : List ℕ) → a ≤ fold max a cs
@@ -19,17 +20,12 @@ most_below : (a b : ℕ) (cs : List ℕ) → a ≤ b → ((k : ℕ) → k < leng
 most_below a b [] h each = h
 most_below a b (c ∷ cs) h each = most_below (max a c) b cs (max-le h (each 0 (omega arith))) (λ k l. each (suc k) (omega arith))
 
--- the work of some tasks is at least the time of each
-work_each : (cs : List ℕ) (n k : ℕ) → k < n → get_or cs k 0 ≤ work cs n
-unfolding work
-work_each cs zero k h = absurd (not-suc-le-zero h)
-work_each cs (suc n) k h = elim (cases_lt k n) [
-  | inl less ↦ omega (arith, work_each cs n k less)
-  | inr last ↦ let same : k ≡ n = omega arith in omega (arith, ap (λ i. get_or cs i 0) same)
-]
-
+-- the work of tasks is at least the largest time, and at most this for each task
 largest_below_work : (cs : List ℕ) → largest cs ≤ work cs (length cs)
-largest_below_work cs = most_below 0 (work cs (length cs)) cs (omega arith) (work_each cs (length cs))
+largest_below_work cs = most_below 0 (work cs (length cs)) cs (omega arith) (work_each cs)
+
+pub work_below_largest : (cs : List ℕ) → work cs (length cs) ≤ length cs * largest cs
+work_below_largest cs = work_below (largest cs) cs (most_each 0 cs)
 
 -- the quotient that the bound is, where tasks share processors
 module _ (m w c : ℕ) (some : 1 ≤ m) (fits : c ≤ w) where

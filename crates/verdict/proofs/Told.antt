@@ -1,10 +1,12 @@
 -- The first number of which something is told. Assumes nothing.
-use Rattle.std.proofs.Common.{◌≡◌, ℕ, zero, suc, ◌+◌, ◌<◌, Bool, true, false, cond, Some, None, Option, sym, refl, ap, ◌∙◌, inl, inr, add-one, arith}
+use Rattle.std.proofs.Common.{◌≡◌, ℕ, zero, suc, ◌+◌, ◌<◌, Bool, true, false, cond, length, Some, None, Option, is_some, sym, refl, ap, ◌∙◌, inl, inr, add-one, arith}
 use Rattle.plan.specs.Plan.{Plan}
 use Rattle.plan.proofs.Exits.{no_case}
-use Rattle.std.proofs.lemmas.Bool.{cases_lt, cond-true, cond-false}
+use Rattle.std.proofs.lemmas.Bool.{cases_lt, cond-true}
+use Rattle.std.proofs.lemmas.Bool.Decides.{nat_tests}
 use Rattle.std.specs.Option.{option_or}
-use Rattle.verdict.specs.Verdict.{Told, passes, pair_told, failing, first_told}
+use Rattle.verdict.specs.Answers.{is_pair}
+use Rattle.verdict.specs.Verdict.{Told, passes, pair_told, failing, first_told, failing_from, failing_before, verdict}
 
 module _ {A : Type 0} (telling : ℕ → Option A) where
   -- nothing is told of one number more
@@ -49,9 +51,19 @@ module _ (p : Plan) (i j : ℕ) where
   unfolding failing
   told_of_pass e = cond-true (passes p i j) None (Some (pair_told p i j)) e
 
-  pub told_of_failure : passes p i j ≡ false → failing p i j ≡ Some (pair_told p i j)
-  unfolding failing
-  told_of_failure e = cond-false (passes p i j) None (Some (pair_told p i j)) e
+  -- where i and j are modes and no pair, they are one mode, which passes
+  pub told_of_no_pair : i < length p.modes → j < length p.modes → is_pair p i j ≡ false → failing p i j ≡ None
+  told_of_no_pair is_old is_new none = told_of_pass (grind (arith, nat_tests))
+
+  -- what is told of a pair is the verdict, where nothing is told of the pairs before it
+  pub told_first : i < length p.modes → j < length p.modes → failing_before p i ≡ None → failing_from p i j ≡ None → is_some (failing p i j) ≡ true → failing p i j ≡ verdict p
+  told_first is_old is_new rows row some = at (failing p i j) refl some
+    where
+      at : (o : Option Told) → failing p i j ≡ o → is_some o ≡ true → failing p i j ≡ verdict p
+      at None here h = no_case (cc)
+      at (Some t) here h =
+          let n = length p.modes in
+          here ∙ sym (told_at (λ k. failing_from p k n) n i t is_old rows (told_at (failing p i) n j t is_new row here))
 
   pub pass_of_none : failing p i j ≡ None → passes p i j ≡ true
   unfolding failing

@@ -1,20 +1,14 @@
--- Each turn looks at the time of a task.
-use Rattle.std.proofs.Common.{max, [], ap, ◌∙◌, arith}
-use Rattle.std.proofs.lemmas.List.{take_all, length-map, get_or-map}
-use Rattle.std.proofs.lemmas.List.Sums.{fold_more}
-use Rattle.verdict.specs.Bound.{table_costs, largest}
+-- The chain takes the largest of the tasks' times.
+use Rattle.std.proofs.Common.{max, sym, ap, ◌∙◌, unwrap_or, rules, tests}
+use Rattle.std.proofs.lemmas.Iterator.{YieldsList-from_slice, YieldsList-from_map}
+use Rattle.std.proofs.lemmas.Iterator.Consumers.{reduce_from_yields_List}
+use Rattle.std.proofs.lemmas.List.Folds.{max_of_map, fold-map}
 use Rattle.verdict.proofs.bounds.largest_cost.Goals as goal
-
-pub loop-task-preserved : goal.loop-task-preserved
-loop-task-preserved c =
-    let tasks = c.args.tasks.now in
-    let i = c.loop-task.task-index in
-    let more = fold_more max 0 (table_costs tasks) i 0 (omega (arith, length-map tasks (λ t. t.cost))) in
-    let time = get_or-map (λ t. t.cost) tasks i (record { cost = 0; deadline = 0; separation = 0; enabling = [] }) 0 c.loop-task-test.true in
-    let larger = c.max-most.ensures in
-    cc
 
 pub returns : goal.returns
 returns c =
     let tasks = c.args.tasks.now in
-    c.loop-task.invariant ∙ ap largest (take_all c.loop-task.task-index (table_costs tasks) (omega (arith, length-map tasks (λ t. t.cost))))
+    c.unwrap_or.ensures
+    ∙ ap (λ o. unwrap_or o 0) (reduce_from_yields_List _ c.map.result _ c.max.ensures.ran (YieldsList-from_map _ (λ t. t.cost) (YieldsList-from_slice tasks cc) c.map.ensures.closure (λ x b q k. search (rules, tests))))
+    ∙ max_of_map (λ t. t.cost) tasks
+    ∙ sym (fold-map max (λ t. t.cost) 0 tasks)

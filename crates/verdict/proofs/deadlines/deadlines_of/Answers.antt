@@ -1,25 +1,17 @@
--- Each turn adds the deadline of a task.
-use Rattle.std.proofs.Common.{◌≡◌, [], map, length, take, sym, refl, ap, ◌∙◌, arith}
-use Rattle.std.specs.List.{range_with_len}
-use Rattle.std.proofs.lemmas.List.{length-map, length-set}
-use Rattle.plan.specs.Held.{task_of}
-use Rattle.verdict.specs.Enabling.{task_deadline}
-use Rattle.verdict.proofs.Earliest.{deadlines_more}
+-- Each call gives the deadline of its task.
+use Rattle.std.proofs.Common.{◌≡◌, ◌<◌, length, get_or, rules, tests, arith}
+use Rattle.plan.specs.Held.{blank_task, plan_of}
+use Rattle.plan.specs.Sizes.{most_tasks}
+use Rattle.verdict.specs.Enabling.{no_deadline}
+use Rattle.verdict.proofs.Earliest.{deadlines_held}
+use Rattle.verdict.proofs.Filled.{each_from}
 use Rattle.verdict.proofs.deadlines.deadlines_of.Goals as goal
-
-pub loop-number-init : goal.loop-number-init
-loop-number-init c = (refl, λ modes is_mode. refl)
-
-pub loop-number-preserved : goal.loop-number-preserved
-loop-number-preserved c =
-    let one = c.deadline_of.ensures in (
-      length-set c.loop-number.found c.loop-number.number c.deadline_of.result ∙ c.loop-number.invariant.0,
-      λ modes is_mode. deadlines_more modes c.args.old is_mode c.args.tasks.now c.loop-number.number (record { cost = 0; deadline = 0; separation = 0; enabling = [] }) c.loop-number.found c.deadline_of.result c.loop-number-test.true (omega arith) one.ticks one.task (c.loop-number.invariant.1 modes is_mode),
-    )
 
 pub returns : goal.returns
 returns c =
     let tasks = c.args.tasks.now in
-    let all : c.loop-number.number ≡ length tasks = omega arith in
-    λ modes is_mode.
-    ap (λ n. take n c.loop-number.found) (sym all) ∙ c.loop-number.invariant.1 modes is_mode ∙ ap (λ n. map (task_deadline c.args.old (map (task_of modes) tasks)) (range_with_len 0 n)) (all ∙ sym (length-map tasks (task_of modes)))
+    let old = c.args.old.now in
+    let made = c.from_fn.ensures.items in
+    deadlines_held (length (plan_of old.draft.now.plan).modes) old.number old.there tasks c.from_fn.result (omega arith) (λ k within.
+    each_from _ _ (λ i d. i < length tasks → d ≡ record { ticks = get_or (get_or tasks i blank_task).enabling old.number 0; task = i })
+    (λ i d q called. (search rules, λ here. search (rules, tests))) c.from_fn.result 0 most_tasks k no_deadline made.each (omega arith) (omega arith) within)
