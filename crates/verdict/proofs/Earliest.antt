@@ -1,8 +1,7 @@
 -- The enabling deadlines of tasks in tables, and the earliest of several. Assumes nothing.
-use Rattle.std.specs.Prelude.{◌≡◌, ℕ, ◌<◌, ◌≤◌, true, List, map, length, get_or, take, Some, None, Option, ◌≢◌, slice_index, slice_index_or, refl}
+use Rattle.std.specs.Prelude.{◌≡◌, ℕ, ◌<◌, ◌≤◌, true, List, length, get_or, take, Some, None, Option, ◌≢◌, slice_index, slice_index_or, refl}
 use Rattle.std.proofs.Common.{inl, inr, sym, ap₂, ◌∙◌, arith, zero-add}
 use Rattle.std.proofs.Math.Path.{ap, subst}
-use Rattle.std.specs.List.{range_with_len}
 use Rattle.std.proofs.lemmas.List.FromFn.{length-map-range_with_len, get_or-map-range_with_len, fill_by_all}
 use Rattle.std.proofs.lemmas.List.{length-map, length-take, get_or-map, get_or-take}
 use Rattle.std.specs.Option.{unwrap_or}
@@ -13,29 +12,34 @@ use Rattle.ordering.specs.First.{first, Leads, GoesFirst}
 use Rattle.ordering.specs.Keys.{by_keys}
 use Rattle.plan.specs.declared.tables.Task.{Task as TaskTable}
 use Rattle.plan.specs.Held.{blank_task, task_of}
-use Rattle.plan.specs.Plan.{Task, no_task}
+use Rattle.plan.specs.Plan.{Task, Plan, no_task, mode_at}
 use Rattle.verdict.specs.declared.deadlines.Deadline.{Deadline}
 use Rattle.verdict.specs.EarlierFirst.{deadlines_strict}
-use Rattle.verdict.specs.Enabling.{deadline_of, task_deadline, deadlines, deadline_keys, no_deadline, earliest_of}
+use Rattle.verdict.specs.Tables.{HoldTasks}
+use Rattle.verdict.specs.Enabling.{tasks_in, enabling, deadline_of, task_deadline, deadlines, deadline_keys, no_deadline, earliest_of}
 
-module _ (modes i : ℕ) (is_mode : i < modes) (tasks : List TaskTable) where
-  -- the tables of a task hold its enabling deadlines
-  deadline_held : (k : ℕ) (d : TaskTable) → k < length tasks → deadline_of i (map (task_of modes) tasks) k ≡ slice_index (get_or tasks k d).enabling i
-  deadline_held k d within =
-      ap (λ t. slice_index t.enabling i) (get_or-map (task_of modes) tasks k d no_task within)
-      ∙ get_or-take modes (get_or tasks k d).enabling i 0 is_mode
+module _ {p : Plan} {j : ℕ} {tables : List TaskTable} (tasks : HoldTasks p j tables) where
+  pub size_held : length tables ≡ tasks_in p j
+  size_held = sym (length-map tables (task_of (length p.modes))) ∙ ap length tasks.held
+
+  -- the tables of the tasks hold their enabling deadlines
+  deadline_held : (i k : ℕ) → i < length p.modes → k < length tables → slice_index (get_or tables k blank_task).enabling i ≡ enabling p i j k
+  deadline_held i k is_mode within =
+      let n = length p.modes in
+      sym (get_or-take n (get_or tables k blank_task).enabling i 0 is_mode)
+      ∙ ap (λ t. slice_index t.enabling i) (sym (get_or-map (task_of n) tables k blank_task no_task within))
+      ∙ ap (λ ts. deadline_of i ts k) tasks.held
 
   -- the first places have the deadlines of the tasks, where each has the deadline of its task
-  pub deadlines_held : (found : List Deadline) → length tasks ≤ length found → ((k : ℕ) → k < length tasks → get_or found k no_deadline ≡ record { ticks = slice_index (get_or tasks k blank_task).enabling i; task = k }) → take (length tasks) found ≡ deadlines i (map (task_of modes) tasks)
-  deadlines_held found room each =
-      let ts = map (task_of modes) tasks in
-      let n = length tasks in
-      fill_by_all (task_deadline i ts) (take n found) n no_deadline (length-take n found ∙ omega arith) (λ k within.
-      let at = get_or-take n found k no_deadline within ∙ each k within in
-      let ticks = ap (λ d. d.ticks) at ∙ sym (deadline_held k blank_task within) in
+  pub deadlines_held : (i : ℕ) (found : List Deadline) → i < length p.modes → length tables ≤ length found → ((k : ℕ) → k < length tables → get_or found k no_deadline ≡ record { ticks = slice_index (get_or tables k blank_task).enabling i; task = k }) → take (tasks_in p j) found ≡ deadlines i (mode_at p j).tasks
+  deadlines_held i found is_mode room each =
+      let n = tasks_in p j in
+      fill_by_all (task_deadline i (mode_at p j).tasks) (take n found) n no_deadline (length-take n found ∙ omega (arith, size_held)) (λ k within.
+      let inside : k < length tables = omega (arith, size_held, within) in
+      let at = get_or-take n found k no_deadline within ∙ each k inside in
+      let ticks = ap (λ d. d.ticks) at ∙ deadline_held i k is_mode inside in
       let task = ap (λ d. d.task) at in
-      λ j. record { ticks = ticks j; task = task j })
-      ∙ ap (λ m. map (task_deadline i ts) (range_with_len 0 m)) (sym (length-map tasks (task_of modes)))
+      λ l. record { ticks = ticks l; task = task l })
 
 -- the earliest of several stands at their first place
 pub earliest_at : (ds : List Deadline) (place : ℕ) → Some place ≡ first (by_keys deadline_keys) ds → slice_index_or ds place no_deadline ≡ earliest_of ds

@@ -1,18 +1,14 @@
 -- The first number of which something is told. Assumes nothing.
-use Rattle.std.proofs.Common.{◌≡◌, ℕ, zero, suc, ◌+◌, ◌<◌, Bool, true, false, cond, length, Some, None, Option, is_some, sym, refl, ap, ◌∙◌, inl, inr, add-one, arith}
+use Rattle.std.proofs.Common.{◌≡◌, ℕ, zero, suc, ◌<◌, true, false, length, Some, None, Option, is_some, sym, refl, ap, ◌∙◌, inl, inr, arith}
 use Rattle.plan.specs.Plan.{Plan}
 use Rattle.plan.proofs.Exits.{no_case}
-use Rattle.std.proofs.lemmas.Bool.{cases_lt, cond-true}
+use Rattle.std.proofs.lemmas.Bool.{cases_lt}
 use Rattle.std.proofs.lemmas.Bool.Decides.{nat_tests}
 use Rattle.std.specs.Option.{option_or}
 use Rattle.verdict.specs.Answers.{is_pair}
 use Rattle.verdict.specs.Verdict.{Told, passes, pair_told, failing, first_told, failing_from, failing_before, verdict}
 
 module _ {A : Type 0} (telling : ℕ → Option A) where
-  -- nothing is told of one number more
-  pub told_more : (n : ℕ) → first_told n telling ≡ None → telling n ≡ None → first_told (n + 1) telling ≡ None
-  told_more n before here = ap (λ k. first_told k telling) (add-one n) ∙ ap (λ o. option_or o (telling n)) before ∙ here
-
   -- something is told of the number after those of which nothing is told
   pub told_at : (n i : ℕ) (x : A) → i < n → first_told i telling ≡ None → telling i ≡ Some x → first_told n telling ≡ Some x
   told_at zero i x within before here = let no : ⊥ = omega arith in absurd no
@@ -46,14 +42,19 @@ module _ {A : Type 0} (telling : ℕ → Option A) where
       at (Some y) e h before = let earlier = before (e ∙ h) in (earlier.0, omega (arith, earlier.1), earlier.2, earlier.3)
 
 module _ (p : Plan) (i j : ℕ) where
-  -- a pair of which nothing is told passes, and one that is told fails, both ways round
-  pub told_of_pass : passes p i j ≡ true → failing p i j ≡ None
+  -- a pair of which nothing is told passes, and one that is told fails
+  pub pass_of_none : failing p i j ≡ None → passes p i j ≡ true
   unfolding failing
-  told_of_pass e = cond-true (passes p i j) None (Some (pair_told p i j)) e
+  pass_of_none e = grind (arith, nat_tests)
 
-  -- where i and j are modes and no pair, they are one mode, which passes
+  pub failure_of_some : (t : Told) → failing p i j ≡ Some t → (passes p i j ≡ false) × (pair_told p i j ≡ t)
+  unfolding failing
+  failure_of_some t e = grind (arith, nat_tests)
+
+  -- where i and j are modes and no pair, they are one mode, of which nothing is told
   pub told_of_no_pair : i < length p.modes → j < length p.modes → is_pair p i j ≡ false → failing p i j ≡ None
-  told_of_no_pair is_old is_new none = told_of_pass (grind (arith, nat_tests))
+  unfolding failing
+  told_of_no_pair is_old is_new none = grind (arith, nat_tests)
 
   -- what is told of a pair is the verdict, where nothing is told of the pairs before it
   pub told_first : i < length p.modes → j < length p.modes → failing_before p i ≡ None → failing_from p i j ≡ None → is_some (failing p i j) ≡ true → failing p i j ≡ verdict p
@@ -64,19 +65,3 @@ module _ (p : Plan) (i j : ℕ) where
       at (Some t) here h =
           let n = length p.modes in
           here ∙ sym (told_at (λ k. failing_from p k n) n i t is_old rows (told_at (failing p i) n j t is_new row here))
-
-  pub pass_of_none : failing p i j ≡ None → passes p i j ≡ true
-  unfolding failing
-  pass_of_none e = at (passes p i j) refl e
-    where
-      at : (b : Bool) → passes p i j ≡ b → cond b None (Some (pair_told p i j)) ≡ None → b ≡ true
-      at true f h = refl
-      at false f h = no_case (cc)
-
-  pub failure_of_some : (t : Told) → failing p i j ≡ Some t → (passes p i j ≡ false) × (pair_told p i j ≡ t)
-  unfolding failing
-  failure_of_some t e = at (passes p i j) refl e
-    where
-      at : (b : Bool) → passes p i j ≡ b → cond b None (Some (pair_told p i j)) ≡ Some t → (b ≡ false) × (pair_told p i j ≡ t)
-      at true f h = no_case (cc)
-      at false f h = (refl, cc)

@@ -1,8 +1,13 @@
 -- The work of tasks as a sum, and what it is at least and at most. Assumes nothing.
-use Rattle.std.proofs.Common.{◌≡◌, ℕ, zero, suc, ◌+◌, ◌*◌, ◌<◌, ◌≤◌, List, [], ◌∷◌, length, get_or, take, sum, sym, refl, ap, ◌∙◌, arith, add-one}
+use Rattle.std.proofs.Common.{◌≡◌, ℕ, zero, suc, ◌+◌, ◌*◌, ◌<◌, ◌≤◌, List, [], ◌∷◌, map, length, get_or, take, sum, sym, refl, ap, ◌∙◌, arith, add-one}
+use mathlib.Core.List.{map-map}
 use Rattle.std.proofs.lemmas.List.{take_all}
 use Rattle.std.proofs.lemmas.List.Sums.{sum_by_more, sum_by-cons, get_or-le-sum_by}
-use Rattle.verdict.specs.Bound.{work}
+use Rattle.plan.specs.declared.tables.Task.{Task as TaskTable}
+use Rattle.plan.specs.Held.{task_of}
+use Rattle.plan.specs.Plan.{Plan, mode_at}
+use Rattle.verdict.specs.Bound.{costs, table_costs, work}
+use Rattle.verdict.specs.Tables.{HoldTasks}
 
 work_so_far : (cs : List ℕ) (k : ℕ) → k ≤ length cs → work cs k ≡ sum (take k cs)
 unfolding work
@@ -28,3 +33,7 @@ sum_below b (c ∷ cs) each =
 
 pub work_below : (b : ℕ) (cs : List ℕ) → ((k : ℕ) → k < length cs → get_or cs k 0 ≤ b) → work cs (length cs) ≤ length cs * b
 work_below b cs each = omega (arith, work_all cs, sum_below b cs each)
+
+-- the tables of a mode's tasks have their times
+pub costs_held : {p : Plan} {j : ℕ} {tables : List TaskTable} → HoldTasks p j tables → table_costs tables ≡ costs (mode_at p j)
+costs_held {p} {j} {tables} tasks = sym (map-map (λ t. t.cost) (task_of (length p.modes)) tables) ∙ ap (map (λ t. t.cost)) tasks.held

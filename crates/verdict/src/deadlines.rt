@@ -1,12 +1,12 @@
 // The enabling deadlines of a changeover, and the least of them.
-ghost use Rattle.std.specs.Prelude.{◌≡◌, ◌≤◌, map, length, take};
+ghost use Rattle.std.specs.Prelude.{◌≡◌, take, slice_index};
 ghost use Rattle.ordering.specs.Keys.{by_keys};
-ghost use Rattle.plan.specs.Held.{task_of, plan_of};
-ghost use Rattle.plan.specs.Sizes.{most_tasks};
-ghost use Rattle.verdict.specs.Enabling.{deadlines, deadline_keys, earliest_of};
+ghost use Rattle.plan.specs.Held.{plan_of};
+ghost use Rattle.plan.specs.Plan.{mode_at};
+ghost use Rattle.verdict.specs.Enabling.{deadlines, deadline_keys, earliest, tasks_in};
 ghost use Rattle.verdict.specs.EarlierFirst.{deadlines_strict};
 
-use crate::modes::ModeOf;
+use crate::pair::PairOf;
 use fields::first;
 use ordering::{Order, first_in_order};
 use plan::{TASKS, Task};
@@ -38,29 +38,38 @@ impl Order<Deadline> for ByDeadline {
     }
 }
 
-// The enabling deadlines of some tasks when a mode is left, in the first places.
-fn deadlines_of(tasks: &[Task], old: &ModeOf<'_>) -> [Deadline; TASKS]
-    requires { length tasks.now ≤ most_tasks }
-    ensures { take (length tasks.now) result ≡ deadlines old.now.number (map (task_of (length (plan_of old.now.draft.now.plan).modes)) tasks.now) }
-{
-    array::from_fn(|number| match tasks.get(number) {
-        Some(task) => Deadline {
-            ticks: old.deadline_of(task),
-            task: number as u8,
-        },
-        None => Deadline::BLANK,
-    })
-}
+impl PairOf<'_> {
+    // The enabling deadline of a task when the old mode is left.
+    fn deadline_of(&self, task: &Task) -> u16
+        ensures { result ≡ slice_index task.now.enabling self.now.old }
+    {
+        task.enabling[usize::from(self.old)]
+    }
 
-// The least enabling deadline of some tasks when a mode is left, and the lowest task that has it.
-pub(crate) fn earliest_deadline(tasks: &[Task], old: &ModeOf<'_>) -> Deadline
-    requires some { 1 ≤ length tasks.now }
-    requires few { length tasks.now ≤ most_tasks }
-    ensures { result ≡ earliest_of (deadlines old.now.number (map (task_of (length (plan_of old.now.draft.now.plan).modes)) tasks.now)) }
-{
-    let deadlines = deadlines_of(tasks, old);
-    match first_in_order(&ByDeadline, first(&deadlines, tasks.len())) {
-        Some(place) => deadlines[place],
-        None => unreachable!(),
+    // The enabling deadlines of the tasks of the new mode, in the first places.
+    fn deadlines(&self) -> [Deadline; TASKS]
+        ensures { let p = plan_of self.now.draft.now.plan in take (tasks_in p self.now.new) result ≡ deadlines self.now.old (mode_at p self.now.new).tasks }
+    {
+        let tasks = self.tasks();
+        array::from_fn(|number| match tasks.get(number) {
+            Some(task) => Deadline {
+                ticks: self.deadline_of(task),
+                task: number as u8,
+            },
+            None => Deadline::BLANK,
+        })
+    }
+
+    // The least enabling deadline, and the lowest task that has it.
+    pub(crate) fn earliest_deadline(&self) -> Deadline
+        ensures { result ≡ earliest (plan_of self.now.draft.now.plan) self.now.old self.now.new }
+    {
+        let deadlines = self.deadlines();
+        let tasks = self.tasks().len();
+        match first_in_order(&ByDeadline, first(&deadlines, tasks)) {
+            Some(place) => deadlines[place],
+            // Every mode has a task.
+            None => unreachable!(),
+        }
     }
 }

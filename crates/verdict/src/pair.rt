@@ -1,27 +1,26 @@
-// A pair of modes of a draft, and how it is judged.
+// The pairs of modes of a draft, and how they are judged.
 ghost use Rattle.std.specs.Prelude.{◌≡◌, IfSome, is_some};
 ghost use Rattle.std.specs.Option.{option_map};
 ghost use Rattle.plan.specs.Held.{plan_of};
 ghost use Rattle.verdict.specs.Sound.{Pair};
+ghost use Rattle.verdict.specs.Tables.{HoldTasks};
 
-use crate::deadlines::{Deadline, earliest_deadline};
 use crate::modes::ModeOf;
 use crate::refusals::Unsound;
-use plan::Draft;
+use plan::{Draft, Task};
 
-// The numbers of two modes that differ, the one that is left and the one that is entered, with the draft that has both.
+// The numbers of two modes that differ, the old one that is left and the new one that is entered, with the draft that has both.
 #[derive(Clone, Copy)]
 pub(crate) struct PairOf<'a> {
-    draft: &'a Draft,
-    old: u8,
-    new: u8,
+    pub(crate) draft: &'a Draft,
+    pub(crate) old: u8,
+    pub(crate) new: u8,
     ghost pair: { Pair (plan_of draft.now.plan) old new },
 }
 
 impl<'a> PairOf<'a> {
     ghost use Rattle.verdict.specs.Answers.{told, is_pair};
     ghost use Rattle.verdict.specs.Bound.{bound_of};
-    ghost use Rattle.verdict.specs.Enabling.{earliest};
     ghost use Rattle.verdict.specs.Verdict.{judgement, in_time, failing};
 
     // The pair with these numbers, where there is one.
@@ -37,47 +36,33 @@ impl<'a> PairOf<'a> {
         }
     }
 
-    // The mode that is left.
-    fn left(&self) -> ModeOf<'a>
-        ensures draft { result.draft.now ≡ self.now.draft.now }
-        ensures number { result.number ≡ self.now.old }
-    {
-        ModeOf {
-            draft: self.draft,
-            number: self.old,
-        }
-    }
-
-    // The mode that is entered.
-    fn entered(&self) -> ModeOf<'a>
-        ensures draft { result.draft.now ≡ self.now.draft.now }
-        ensures number { result.number ≡ self.now.new }
-    {
-        ModeOf {
-            draft: self.draft,
-            number: self.new,
-        }
-    }
-
-    // The longest changeover out of the mode that is left.
+    // The longest changeover out of the old mode.
     fn bound(&self) -> u32
         ensures { result ≡ bound_of (plan_of self.now.draft.now.plan) self.now.old }
     {
-        self.left().bound()
+        let left = ModeOf {
+            draft: self.draft,
+            number: self.old,
+        };
+        left.bound()
     }
 
-    // The least enabling deadline of the mode that is entered, and the lowest task that has it.
-    fn deadline(&self) -> Deadline
-        ensures { result ≡ earliest (plan_of self.now.draft.now.plan) self.now.old self.now.new }
+    // The tasks of the new mode.
+    pub(crate) fn tasks(&self) -> &'a [Task]
+        ensures { HoldTasks (plan_of self.now.draft.now.plan) self.now.new result.now }
     {
-        earliest_deadline(self.entered().tasks(), &self.left())
+        let entered = ModeOf {
+            draft: self.draft,
+            number: self.new,
+        };
+        entered.tasks()
     }
 
     // The longest changeover, and the least enabling deadline.
     pub(crate) fn judgement(&self) -> (u32, u16)
         ensures { result ≡ judgement (plan_of self.now.draft.now.plan) self.now.old self.now.new }
     {
-        (self.bound(), self.deadline().ticks)
+        (self.bound(), self.earliest_deadline().ticks)
     }
 
     // Whether a changeover that takes so long ends within the deadline.
@@ -93,7 +78,7 @@ impl<'a> PairOf<'a> {
         ensures { option_map told result ≡ failing (plan_of self.now.draft.now.plan) self.now.old self.now.new }
     {
         let bound = self.bound();
-        let deadline = self.deadline();
+        let deadline = self.earliest_deadline();
         if Self::ends_in_time(bound, deadline.ticks) {
             return None;
         }

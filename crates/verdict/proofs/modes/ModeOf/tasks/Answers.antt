@@ -11,7 +11,7 @@ pub returns : goal.returns
 returns c =
     let mode = c.args.self.now in
     let p = plan_of mode.draft.now.plan in
-    let same : map (task_of (length p.modes)) c.tasks.result.now ≡ (mode_at p mode.number).tasks = grind (arith, common_steps) in
+    let held : map (task_of (length p.modes)) c.tasks.result.now ≡ (mode_at p mode.number).tasks = grind (arith, common_steps) in
     let size = length-map c.tasks.result.now (task_of (length p.modes)) in
     let limits = (within mode.draft.now).5 mode.number mode.there in
-    record { tasks = same; some = omega (arith, ap length same, limits.1); few = omega (arith, ap length same, limits.2) }
+    record { held = held; some = omega (arith, ap length held, limits.1); few = omega (arith, ap length held, limits.2) }
