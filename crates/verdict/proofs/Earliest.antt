@@ -79,7 +79,7 @@ module _ (i : ℕ) (ts : List Task) where
       | inl same ↦ omega (arith, ap (deadline_of i ts) same)
       | inr differ ↦ let goes = goes_before place k leads inside within differ in grind (arith, nat_tests)
     ];
-    lowest = λ k before. let goes = goes_before place k leads inside (omega (arith, before, inside)) (λ same. let no : ⊥ = omega (arith, before) in no) in grind (arith, nat_tests);
+    lowest = λ k before. let goes = goes_before place k leads inside (omega (arith, before, inside)) (omega (arith, before)) in grind (arith, nat_tests);
   }
     where
       inside : place < length ts
@@ -90,5 +90,5 @@ module _ (i : ℕ) (ts : List Task) where
   earliest_least some = at (first (by_keys deadline_keys) listed) (goes_first deadlines_strict listed)
     where
       at : (o : Option ℕ) → GoesFirst (by_keys deadline_keys) listed o → Least i ts (slice_index_or listed (unwrap_or o 0) no_deadline)
-      at None none = let no : ⊥ = omega (arith, size, ap length none) in absurd no
+      at None none = absurd (omega (arith, size, ap length none))
       at (Some place) leads = subst (Least i ts) (sym (at_place place (omega (arith, leads.within, size)))) (least_first place leads)

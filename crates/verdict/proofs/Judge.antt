@@ -43,7 +43,7 @@ module _ (p : Plan) (limits : Within p) where
   first_failing : (i j : ℕ) → i < n → j < n → passes p i j ≡ false → failing_before p i ≡ None → failing_from p i j ≡ None → FirstFailing p (pair_told p i j)
   first_failing i j is_old is_new failed rows row =
       let at = least i j is_new in
-      let differ : i ≢ j = λ same. (let no : ◌≡◌ {A = ℕ} 0 1 = grind (arith, nat_tests) in let none : ⊥ = omega arith in none) in
+      let differ : i ≢ j = grind (arith, nat_tests) in
       record {
         number = refl;
         pair = (is_old, is_new, differ);

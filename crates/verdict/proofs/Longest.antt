@@ -1,8 +1,9 @@
 -- What the bound of a mode is, in other words than its formula. Assumes nothing.
-use Rattle.std.proofs.Common.{◌≡◌, ℕ, zero, suc, ◌+◌, ◌-◌, ◌*◌, ◌/◌, ◌<◌, ◌≤◌, max, List, [], ◌∷◌, length, get_or, fold, sym, ap, ◌∙◌, subst, inl, inr, le_of_suc-le-suc, not-suc-le-zero, mul_comm, add-mul, one-mul, mul-one, mul-add, arith}
+use Rattle.std.proofs.Common.{◌≡◌, ℕ, zero, suc, ◌+◌, ◌-◌, ◌*◌, ◌/◌, ◌<◌, ◌≤◌, max, List, [], ◌∷◌, length, get_or, fold, sym, ap, ◌∙◌, subst, inl, inr, le_of_suc-le-suc, not-suc-le-zero, mul_comm, add-mul, arith}
 use native.Mathlib.Nat.{le-max_left, le-max_right, max-le}
-use Rattle.std.proofs.lemmas.Nat.{div-add-mod', mod_below, le-div, div_below, mul-le}
-use Rattle.std.proofs.lemmas.Bool.{cases_lt, cond-true, cond-false, le-leb, lt-leb}
+use Rattle.std.proofs.lemmas.Nat.{div-add-mod', mod_below, le-div, div_below}
+use Rattle.std.proofs.lemmas.Bool.{cases_lt}
+use Rattle.std.proofs.lemmas.Bool.Decides.{nat_tests}
 use Rattle.verdict.specs.Bound.{work, largest, bound, Longest}
 use Rattle.verdict.proofs.Works.{work_each, work_below}
 
@@ -32,33 +33,30 @@ module _ (m w c : ℕ) (some : 1 ≤ m) (fits : c ≤ w) where
   abbrev quotient : ℕ
   quotient = (w + (m - 1) * c) / m
 
-  -- m processors are one processor, and m - 1 more
-  split : (x : ℕ) → m * x ≡ (m - 1) * x + x
-  split x = let one : m ≡ (m - 1) + 1 = omega arith in ap (λ k. k * x) one ∙ add-mul (m - 1) 1 x ∙ ap (λ y. (m - 1) * x + y) (one-mul x)
-
   at_least : c ≤ quotient
-  at_least = le-div c (w + (m - 1) * c) m some (omega (arith, mul_comm c m, split c))
+  at_least =
+      let one : m ≡ (m - 1) + 1 = omega arith in
+      let split = ap (λ k. k * c) one ∙ add-mul (m - 1) 1 c in
+      le-div c (w + (m - 1) * c) m some (omega (arith, mul_comm c m, split))
 
   at_most : quotient ≤ w
-  at_most =
-      let below = div_below (w + (m - 1) * c) m (w + 1) some (omega (arith, mul_comm (w + 1) m, mul-add m w 1, mul-one m, split w, mul-le (m - 1) c (m - 1) w (omega arith) fits)) in
-      omega (arith, below)
+  at_most = let below = div_below (w + (m - 1) * c) m (w + 1) some (grind arith) in omega (arith, below)
 
   rounded : (m * quotient ≤ w + (m - 1) * c) × (w + (m - 1) * c < m * (quotient + 1))
   rounded =
       let whole = div-add-mod' (w + (m - 1) * c) m in
       let rest = mod_below (w + (m - 1) * c) m some in
-      (omega (arith, whole, mul_comm m quotient), omega (arith, whole, rest, mul_comm m quotient, mul-add m quotient 1, mul-one m))
+      (grind arith, grind arith)
 
 module _ (m : ℕ) (some : 1 ≤ m) (cs : List ℕ) where
   abbrev w : ℕ
   w = work cs (length cs)
 
   alone : length cs ≤ m → bound m cs ≡ largest cs
-  alone few = cond-true _ (largest cs) (quotient m w (largest cs) some (largest_below_work cs)) (le-leb (length cs) m few)
+  alone few = grind (arith, nat_tests)
 
   shared : m < length cs → bound m cs ≡ quotient m w (largest cs) some (largest_below_work cs)
-  shared many = cond-false _ (largest cs) (quotient m w (largest cs) some (largest_below_work cs)) (lt-leb (length cs) m many)
+  shared many = grind (arith, nat_tests)
 
   pub bound_longest : Longest m cs (bound m cs)
   bound_longest = record {

@@ -1,7 +1,6 @@
 -- The first number of which something is told. Assumes nothing.
 use Rattle.std.proofs.Common.{◌≡◌, ℕ, zero, suc, ◌<◌, true, false, length, Some, None, Option, is_some, sym, refl, ap, ◌∙◌, inl, inr, arith}
 use Rattle.plan.specs.Plan.{Plan}
-use Rattle.plan.proofs.Exits.{no_case}
 use Rattle.std.proofs.lemmas.Bool.{cases_lt}
 use Rattle.std.proofs.lemmas.Bool.Decides.{nat_tests}
 use Rattle.std.specs.Option.{option_or}
@@ -11,7 +10,7 @@ use Rattle.verdict.specs.Verdict.{Told, passes, pair_told, failing, first_told, 
 module _ {A : Type 0} (telling : ℕ → Option A) where
   -- something is told of the number after those of which nothing is told
   pub told_at : (n i : ℕ) (x : A) → i < n → first_told i telling ≡ None → telling i ≡ Some x → first_told n telling ≡ Some x
-  told_at zero i x within before here = let no : ⊥ = omega arith in absurd no
+  told_at zero i x within before here = absurd (omega arith)
   told_at (suc n) i x within before here = elim (cases_lt i n) [
     | inl less ↦ ap (λ o. option_or o (telling n)) (told_at n i x less before here)
     | inr last ↦ let same : i ≡ n = omega arith in ap (λ k. option_or (first_told k telling) (telling k)) (sym same) ∙ ap (λ o. option_or o (telling i)) before ∙ here
@@ -19,7 +18,7 @@ module _ {A : Type 0} (telling : ℕ → Option A) where
 
   -- where nothing is told, nothing is told of any number
   pub told_none_of : (n : ℕ) → first_told n telling ≡ None → (k : ℕ) → k < n → telling k ≡ None
-  told_none_of zero none k within = let no : ⊥ = omega arith in absurd no
+  told_none_of zero none k within = absurd (omega arith)
   told_none_of (suc n) none k within = elim (cases_lt k n) [
     | inl less ↦ told_none_of n (neither (first_told n telling) (telling n) none).0 k less
     | inr last ↦ let same : k ≡ n = omega arith in ap telling same ∙ (neither (first_told n telling) (telling n) none).1
@@ -27,14 +26,14 @@ module _ {A : Type 0} (telling : ℕ → Option A) where
     where
       neither : (x y : Option A) → option_or x y ≡ None → (x ≡ None) × (y ≡ None)
       neither None y e = (refl, e)
-      neither (Some z) y e = no_case (cc)
+      neither (Some z) y e = (cc, cc)
 
   -- where something is told, it is told of a number, and nothing of those before it
   abbrev ToldFirst : ℕ → A → Type 0
   ToldFirst n x = (k : ℕ) × (k < n) × (telling k ≡ Some x) × (first_told k telling ≡ None)
 
   pub told_some_of : (n : ℕ) (x : A) → first_told n telling ≡ Some x → ToldFirst n x
-  told_some_of zero x some = no_case (cc)
+  told_some_of zero x some = absurd (cc)
   told_some_of (suc n) x some = at (first_told n telling) refl some (told_some_of n x)
     where
       at : (o : Option A) → first_told n telling ≡ o → option_or o (telling n) ≡ Some x → (first_told n telling ≡ Some x → ToldFirst n x) → ToldFirst (suc n) x
@@ -61,7 +60,7 @@ module _ (p : Plan) (i j : ℕ) where
   told_first is_old is_new rows row some = at (failing p i j) refl some
     where
       at : (o : Option Told) → failing p i j ≡ o → is_some o ≡ true → failing p i j ≡ verdict p
-      at None here h = no_case (cc)
+      at None here h = cc
       at (Some t) here h =
           let n = length p.modes in
           here ∙ sym (told_at (λ k. failing_from p k n) n i t is_old rows (told_at (failing p i) n j t is_new row here))

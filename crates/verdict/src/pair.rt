@@ -2,14 +2,17 @@
 ghost use Rattle.std.specs.Prelude.{◌≡◌, IfSome, is_some};
 ghost use Rattle.std.specs.Option.{option_map};
 ghost use Rattle.plan.specs.Held.{plan_of};
+ghost use Rattle.verdict.specs.Answers.{told, is_pair};
+ghost use Rattle.verdict.specs.Bound.{bound_of};
 ghost use Rattle.verdict.specs.Sound.{Pair};
 ghost use Rattle.verdict.specs.Tables.{HoldTasks};
+ghost use Rattle.verdict.specs.Verdict.{judgement, in_time, failing};
 
 use crate::modes::ModeOf;
 use crate::refusals::Unsound;
 use plan::{Draft, Task};
 
-// The numbers of two modes that differ, the old one that is left and the new one that is entered, with the draft that has both.
+// The numbers of two modes that differ, the old that is left and the new that is entered, with the draft that has both.
 #[derive(Clone, Copy)]
 pub(crate) struct PairOf<'a> {
     pub(crate) draft: &'a Draft,
@@ -18,11 +21,14 @@ pub(crate) struct PairOf<'a> {
     ghost pair: { Pair (plan_of draft.now.plan) old new },
 }
 
-impl<'a> PairOf<'a> {
-    ghost use Rattle.verdict.specs.Answers.{told, is_pair};
-    ghost use Rattle.verdict.specs.Bound.{bound_of};
-    ghost use Rattle.verdict.specs.Verdict.{judgement, in_time, failing};
+// Whether a changeover that takes so long ends within the deadline.
+fn ends_in_time(bound: u32, deadline: u16) -> bool
+    ensures { result ≡ in_time (bound, deadline) }
+{
+    bound <= u32::from(deadline)
+}
 
+impl<'a> PairOf<'a> {
     // The pair with these numbers, where there is one.
     pub(crate) fn of(draft: &'a Draft, old: u8, new: u8) -> Option<PairOf<'a>>
         ensures some { is_some result ≡ is_pair (plan_of draft.now.plan) old new }
@@ -65,29 +71,22 @@ impl<'a> PairOf<'a> {
         (self.bound(), self.earliest_deadline().ticks)
     }
 
-    // Whether a changeover that takes so long ends within the deadline.
-    fn ends_in_time(bound: u32, deadline: u16) -> bool
-        ensures { result ≡ in_time (bound, deadline) }
-    {
-        bound <= u32::from(deadline)
-    }
-
     // What is told of the pair, where it fails.
     #[tactic(auto, unfolding(crate::specs::Verdict::failing))]
     pub(crate) fn failing(&self) -> Option<Unsound>
         ensures { option_map told result ≡ failing (plan_of self.now.draft.now.plan) self.now.old self.now.new }
     {
         let bound = self.bound();
-        let deadline = self.earliest_deadline();
-        if Self::ends_in_time(bound, deadline.ticks) {
+        let earliest = self.earliest_deadline();
+        if ends_in_time(bound, earliest.ticks) {
             return None;
         }
         Some(Unsound {
             old: self.old,
             new: self.new,
-            task: deadline.task,
+            task: earliest.task,
             bound,
-            deadline: deadline.ticks,
+            deadline: earliest.ticks,
         })
     }
 }
