@@ -54,7 +54,7 @@ impl PairOf<'_> {
         array::from_fn(|number| match tasks.get(number) {
             Some(task) => Deadline {
                 ticks: self.deadline_of(task),
-                task: number as u8,
+                task: u8::try_from(number).unwrap(),
             },
             None => Deadline::BLANK,
         })
