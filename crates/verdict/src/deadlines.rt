@@ -7,7 +7,6 @@ ghost use Rattle.verdict.specs.Enabling.{deadlines, deadline_keys, earliest, tas
 ghost use Rattle.verdict.specs.EarlierFirst.{deadlines_strict};
 
 use crate::pair::PairOf;
-use fields::first;
 use ordering::{Order, first_in_order};
 use plan::{TASKS, Task};
 use std::array;
@@ -65,8 +64,7 @@ impl PairOf<'_> {
         ensures { result ≡ earliest (plan_of self.now.draft.now.plan) self.now.old self.now.new }
     {
         let deadlines = self.deadlines();
-        let tasks = self.tasks().len();
-        match first_in_order(&ByDeadline, first(&deadlines, tasks)) {
+        match first_in_order(&ByDeadline, &deadlines[..self.tasks().len()]) {
             Some(place) => deadlines[place],
             // Every mode has a task.
             None => unreachable!(),

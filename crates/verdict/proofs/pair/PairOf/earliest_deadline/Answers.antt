@@ -14,9 +14,9 @@ returns c =
     let pair = c.args.self.now in
     let all = c.deadlines-deadlines.result in
     let ds = deadlines pair.old (mode_at (plan_of pair.draft.now.plan) pair.new).tasks in
-    let n = length c.tasks-tasks.result.now in
-    let listed : take n all ≡ ds = ap (λ m. take m all) (size_held c.tasks-tasks.ensures) ∙ c.deadlines-deadlines.ensures in
-    let front = c.first.ensures.value in
+    let n = length c.tasks.result.now in
+    let listed : take n all ≡ ds = ap (λ m. take m all) (size_held c.tasks.ensures) ∙ c.deadlines-deadlines.ensures in
     let at = c.in-Some.ensures in
-    let inside : c.in-Some.place < n = omega (arith, at.law.within, ap length front, length-take n all) in
-    sym (get_or-take n all c.in-Some.place no_deadline inside) ∙ ap (λ ds. get_or ds c.in-Some.place no_deadline) listed ∙ earliest_at ds c.in-Some.place (at.place ∙ ap (first (by_keys deadline_keys)) (front ∙ listed))
+    let place = c.in-Some.place in
+    let inside : place < n = omega (arith, at.law.within, length-take n all) in
+    sym (get_or-take n all place no_deadline inside) ∙ ap (λ xs. get_or xs place no_deadline) listed ∙ earliest_at ds place (at.place ∙ ap (first (by_keys deadline_keys)) listed)
