@@ -6,7 +6,7 @@ use Rattle.std.proofs.lemmas.List.Sums.{sum_by_more, sum_by-cons, get_or-le-sum_
 use Rattle.plan.specs.declared.tables.Task.{Task as TaskTable}
 use Rattle.plan.specs.Held.{task_of}
 use Rattle.plan.specs.Plan.{Plan, mode_at}
-use Rattle.verdict.specs.Bound.{costs, table_costs, work}
+use Rattle.verdict.specs.Bound.{costs, work}
 use Rattle.verdict.specs.Tables.{HoldTasks}
 
 work_so_far : (cs : List ℕ) (k : ℕ) → k ≤ length cs → work cs k ≡ sum (take k cs)
@@ -33,6 +33,10 @@ sum_below b (c ∷ cs) each =
 
 pub work_below : (b : ℕ) (cs : List ℕ) → ((k : ℕ) → k < length cs → get_or cs k 0 ≤ b) → work cs (length cs) ≤ length cs * b
 work_below b cs each = omega (arith, work_all cs, sum_below b cs each)
+
+-- the times in a table of tasks
+abbrev pub table_costs : List TaskTable → List ℕ
+table_costs ts = map (λ t. t.cost) ts
 
 -- the tables of a mode's tasks have their times
 pub costs_held : {p : Plan} {j : ℕ} {tables : List TaskTable} → HoldTasks p j tables → table_costs tables ≡ costs (mode_at p j)

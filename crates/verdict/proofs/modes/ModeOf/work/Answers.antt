@@ -3,8 +3,8 @@ use Rattle.std.proofs.Common.{◌≡◌, sum, sym, ap, ◌∙◌, rules}
 use Rattle.std.proofs.iter.runs.Made.{chains}
 use Rattle.plan.specs.Held.{plan_of}
 use Rattle.plan.specs.Plan.{mode_at}
-use Rattle.verdict.specs.Bound.{costs, table_costs}
-use Rattle.verdict.proofs.Works.{work_all, costs_held}
+use Rattle.verdict.specs.Bound.{costs}
+use Rattle.verdict.proofs.Works.{table_costs, work_all, costs_held}
 use Rattle.verdict.proofs.modes.ModeOf.work.Goals as goal
 
 pub returns : goal.returns
