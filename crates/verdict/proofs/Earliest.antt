@@ -1,10 +1,9 @@
 -- The enabling deadlines of tasks in tables, and the earliest of several. Assumes nothing.
-use Rattle.std.specs.Prelude.{◌≡◌, ℕ, ◌+◌, ◌<◌, ◌≤◌, true, List, [], ◌∷◌, ◌++◌, map, length, get_or, take, Some, None, Option, ◌≢◌, slice_index, slice_index_or, slice_set, refl}
+use Rattle.std.specs.Prelude.{◌≡◌, ℕ, ◌<◌, ◌≤◌, true, List, length, get_or, take, Some, None, Option, ◌≢◌, slice_index, slice_index_or, refl}
 use Rattle.std.proofs.Common.{inl, inr, sym, ap₂, ◌∙◌, arith, zero-add}
 use Rattle.std.proofs.Math.Path.{ap, subst}
-use Rattle.std.specs.List.{range_with_len}
-use Rattle.std.proofs.lemmas.List.FromFn.{length-map-range_with_len, get_or-map-range_with_len, map-range_with_len_more}
-use Rattle.std.proofs.lemmas.List.{get_or-map, get_or-take, take_more_set}
+use Rattle.std.proofs.lemmas.List.FromFn.{length-map-range_with_len, get_or-map-range_with_len, fill_by_all}
+use Rattle.std.proofs.lemmas.List.{length-map, length-take, get_or-map, get_or-take}
 use Rattle.std.specs.Option.{unwrap_or}
 use Rattle.std.proofs.lemmas.Bool.{cases_eq}
 use Rattle.std.proofs.lemmas.Bool.Decides.{nat_tests}
@@ -12,24 +11,35 @@ use Rattle.ordering.proofs.Firsts.{goes_first}
 use Rattle.ordering.specs.First.{first, Leads, GoesFirst}
 use Rattle.ordering.specs.Keys.{by_keys}
 use Rattle.plan.specs.declared.tables.Task.{Task as TaskTable}
-use Rattle.plan.specs.Held.{task_of}
-use Rattle.plan.specs.Plan.{Task, no_task}
+use Rattle.plan.specs.Held.{blank_task, task_of}
+use Rattle.plan.specs.Plan.{Task, Plan, no_task, mode_at}
 use Rattle.verdict.specs.declared.deadlines.Deadline.{Deadline}
 use Rattle.verdict.specs.EarlierFirst.{deadlines_strict}
-use Rattle.verdict.specs.Enabling.{deadline_of, task_deadline, deadlines, deadline_keys, no_deadline, earliest_of}
+use Rattle.verdict.specs.Tables.{HoldTasks}
+use Rattle.verdict.specs.Enabling.{tasks_in, enabling, deadline_of, task_deadline, deadlines, deadline_keys, no_deadline, earliest_of}
 
-module _ (modes i : ℕ) (is_mode : i < modes) (tasks : List TaskTable) where
-  -- the tables of a task hold its enabling deadlines
-  deadline_held : (k : ℕ) (d : TaskTable) → k < length tasks → deadline_of i (map (task_of modes) tasks) k ≡ slice_index (get_or tasks k d).enabling i
-  deadline_held k d within =
-      ap (λ t. slice_index t.enabling i) (get_or-map (task_of modes) tasks k d no_task within)
-      ∙ get_or-take modes (get_or tasks k d).enabling i 0 is_mode
+module _ {p : Plan} {j : ℕ} {tables : List TaskTable} (tasks : HoldTasks p j tables) where
+  pub size_held : length tables ≡ tasks_in p j
+  size_held = sym (length-map tables (task_of (length p.modes))) ∙ ap length tasks.held
 
-  -- one deadline more
-  pub deadlines_more : (k : ℕ) (d : TaskTable) (found : List Deadline) (one : Deadline) → k < length tasks → k < length found → one.ticks ≡ slice_index (get_or tasks k d).enabling i → one.task ≡ k → take k found ≡ map (task_deadline i (map (task_of modes) tasks)) (range_with_len 0 k) → take (k + 1) (slice_set found k one) ≡ map (task_deadline i (map (task_of modes) tasks)) (range_with_len 0 (k + 1))
-  deadlines_more k d found one within room ticks task so_far =
-      let held : one ≡ task_deadline i (map (task_of modes) tasks) k = let e = ticks ∙ sym (deadline_held k d within) in λ j. record { ticks = e j; task = task j } in
-      take_more_set found k one room ∙ (λ j. so_far j ++ held j ∷ []) ∙ sym (map-range_with_len_more (task_deadline i (map (task_of modes) tasks)) 0 k k (zero-add k))
+  -- the tables of the tasks hold their enabling deadlines
+  deadline_held : (i k : ℕ) → i < length p.modes → k < length tables → slice_index (get_or tables k blank_task).enabling i ≡ enabling p i j k
+  deadline_held i k is_mode within =
+      let n = length p.modes in
+      sym (get_or-take n (get_or tables k blank_task).enabling i 0 is_mode)
+      ∙ ap (λ t. slice_index t.enabling i) (sym (get_or-map (task_of n) tables k blank_task no_task within))
+      ∙ ap (λ ts. deadline_of i ts k) tasks.held
+
+  -- the first places have the deadlines of the tasks, where each has the deadline of its task
+  pub deadlines_held : (i : ℕ) (found : List Deadline) → i < length p.modes → length tables ≤ length found → ((k : ℕ) → k < length tables → get_or found k no_deadline ≡ record { ticks = slice_index (get_or tables k blank_task).enabling i; task = k }) → take (tasks_in p j) found ≡ deadlines i (mode_at p j).tasks
+  deadlines_held i found is_mode room each =
+      let n = tasks_in p j in
+      fill_by_all (task_deadline i (mode_at p j).tasks) (take n found) n no_deadline (length-take n found ∙ omega (arith, size_held)) (λ k within.
+      let inside : k < length tables = omega (arith, size_held, within) in
+      let at = get_or-take n found k no_deadline within ∙ each k inside in
+      let ticks = ap (λ d. d.ticks) at ∙ deadline_held i k is_mode inside in
+      let task = ap (λ d. d.task) at in
+      λ l. record { ticks = ticks l; task = task l })
 
 -- the earliest of several stands at their first place
 pub earliest_at : (ds : List Deadline) (place : ℕ) → Some place ≡ first (by_keys deadline_keys) ds → slice_index_or ds place no_deadline ≡ earliest_of ds
@@ -69,7 +79,7 @@ module _ (i : ℕ) (ts : List Task) where
       | inl same ↦ omega (arith, ap (deadline_of i ts) same)
       | inr differ ↦ let goes = goes_before place k leads inside within differ in grind (arith, nat_tests)
     ];
-    lowest = λ k before. let goes = goes_before place k leads inside (omega (arith, before, inside)) (λ same. let no : ⊥ = omega (arith, before) in no) in grind (arith, nat_tests);
+    lowest = λ k before. let goes = goes_before place k leads inside (omega (arith, before, inside)) (omega (arith, before)) in grind (arith, nat_tests);
   }
     where
       inside : place < length ts
@@ -80,5 +90,5 @@ module _ (i : ℕ) (ts : List Task) where
   earliest_least some = at (first (by_keys deadline_keys) listed) (goes_first deadlines_strict listed)
     where
       at : (o : Option ℕ) → GoesFirst (by_keys deadline_keys) listed o → Least i ts (slice_index_or listed (unwrap_or o 0) no_deadline)
-      at None none = let no : ⊥ = omega (arith, size, ap length none) in absurd no
+      at None none = absurd (omega (arith, size, ap length none))
       at (Some place) leads = subst (Least i ts) (sym (at_place place (omega (arith, leads.within, size)))) (least_first place leads)

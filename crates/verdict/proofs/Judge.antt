@@ -3,22 +3,21 @@ use Rattle.std.proofs.Common.{◌≡◌, ℕ, ◌<◌, ◌≤◌, true, false, �
 use Rattle.std.proofs.lemmas.Bool.Decides.{nat_tests}
 use Rattle.plan.specs.declared.draft.Draft.{Draft}
 use Rattle.plan.specs.Held.{plan_of}
-use Rattle.plan.specs.Plan.{Plan, mode_at}
-use Rattle.verdict.specs.Answers.{is_pair}
+use Rattle.plan.specs.Plan.{Plan, Within, mode_at}
 use Rattle.verdict.specs.Bound.{bound_of}
-use Rattle.verdict.specs.Enabling.{tasks_in, earliest}
+use Rattle.verdict.specs.Enabling.{earliest}
 use Rattle.verdict.specs.Sound.{Passes, Pair, EveryPairPasses, FirstFailing, Judged}
 use Rattle.verdict.specs.Verdict.{Told, passes, pair_told, failing, failing_from, failing_before, verdict}
 use Rattle.verdict.proofs.Earliest.{Least, earliest_least}
-use Rattle.verdict.proofs.Limits.{some_tasks}
+use Rattle.verdict.proofs.Limits.{within}
 use Rattle.verdict.proofs.Told.{told_none_of, told_some_of, pass_of_none, failure_of_some}
 
-module _ (p : Plan) (some : (j : ℕ) → j < length p.modes → 1 ≤ tasks_in p j) where
+module _ (p : Plan) (limits : Within p) where
   abbrev n : ℕ
   n = length p.modes
 
   least : (i j : ℕ) → j < n → Least i (mode_at p j).tasks (earliest p i j)
-  least i j is_mode = earliest_least i (mode_at p j).tasks (some j is_mode)
+  least i j is_mode = earliest_least i (mode_at p j).tasks (limits.5 j is_mode).1
 
   -- the bound is at most every deadline where it is at most the least
   passes_all : (i j : ℕ) → Pair p i j → passes p i j ≡ true → Passes p i j
@@ -44,7 +43,7 @@ module _ (p : Plan) (some : (j : ℕ) → j < length p.modes → 1 ≤ tasks_in 
   first_failing : (i j : ℕ) → i < n → j < n → passes p i j ≡ false → failing_before p i ≡ None → failing_from p i j ≡ None → FirstFailing p (pair_told p i j)
   first_failing i j is_old is_new failed rows row =
       let at = least i j is_new in
-      let differ : i ≢ j = λ same. (let no : ◌≡◌ {A = ℕ} 0 1 = grind (arith, nat_tests) in let none : ⊥ = omega arith in none) in
+      let differ : i ≢ j = grind (arith, nat_tests) in
       record {
         number = refl;
         pair = (is_old, is_new, differ);
@@ -78,10 +77,6 @@ module _ (p : Plan) (some : (j : ℕ) → j < length p.modes → 1 ≤ tasks_in 
       at None e = λ i j k enables. rows_pass n e i j enables.0.0 enables.0 k enables.1
       at (Some t) e = (failed t e, fails_some t (failed t e))
 
--- what the test for a pair says
-pub pair_from : (p : Plan) (i j : ℕ) → is_pair p i j ≡ true → Pair p i j
-pair_from p i j e = (grind (arith, nat_tests), grind (arith, nat_tests), λ same. let no : ◌≡◌ {A = ℕ} 0 1 = grind (arith, nat_tests) in let none : ⊥ = omega arith in none)
-
 -- the verdict on a draft
 pub judged_as : (d : Draft) (found : Option Told) → found ≡ verdict (plan_of d.plan) → Judged (plan_of d.plan) found
-judged_as d found is = subst (λ o. Judged (plan_of d.plan) o) (sym is) (judged (plan_of d.plan) (some_tasks d))
+judged_as d found is = subst (λ o. Judged (plan_of d.plan) o) (sym is) (judged (plan_of d.plan) (within d))

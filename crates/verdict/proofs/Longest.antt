@@ -1,9 +1,11 @@
 -- What the bound of a mode is, in other words than its formula. Assumes nothing.
-use Rattle.std.proofs.Common.{◌≡◌, ℕ, zero, suc, ◌+◌, ◌-◌, ◌*◌, ◌/◌, ◌<◌, ◌≤◌, max, List, [], ◌∷◌, length, get_or, fold, sym, ap, ◌∙◌, subst, inl, inr, le_of_suc-le-suc, not-suc-le-zero, mul_comm, add-mul, one-mul, mul-one, mul-add, arith}
+use Rattle.std.proofs.Common.{◌≡◌, ℕ, zero, suc, ◌+◌, ◌-◌, ◌*◌, ◌/◌, ◌<◌, ◌≤◌, max, List, [], ◌∷◌, length, get_or, fold, sym, ap, ◌∙◌, subst, inl, inr, le_of_suc-le-suc, not-suc-le-zero, mul_comm, add-mul, arith}
 use native.Mathlib.Nat.{le-max_left, le-max_right, max-le}
-use Rattle.std.proofs.lemmas.Nat.{div-add-mod', mod_below, le-div, div_below, mul-le}
-use Rattle.std.proofs.lemmas.Bool.{cases_lt, cond-true, cond-false, le-leb, lt-leb}
+use Rattle.std.proofs.lemmas.Nat.{div-add-mod', mod_below, le-div, div_below}
+use Rattle.std.proofs.lemmas.Bool.{cases_lt}
+use Rattle.std.proofs.lemmas.Bool.Decides.{nat_tests}
 use Rattle.verdict.specs.Bound.{work, largest, bound, Longest}
+use Rattle.verdict.proofs.Works.{work_each, work_below}
 
 -- a running maximum is at least where it began and each number, and at most what all of these are at most
 most_start : (a : ℕ) (cs : List ℕ) → a ≤ fold max a cs
@@ -19,50 +21,42 @@ most_below : (a b : ℕ) (cs : List ℕ) → a ≤ b → ((k : ℕ) → k < leng
 most_below a b [] h each = h
 most_below a b (c ∷ cs) h each = most_below (max a c) b cs (max-le h (each 0 (omega arith))) (λ k l. each (suc k) (omega arith))
 
--- the work of some tasks is at least the time of each
-work_each : (cs : List ℕ) (n k : ℕ) → k < n → get_or cs k 0 ≤ work cs n
-unfolding work
-work_each cs zero k h = absurd (not-suc-le-zero h)
-work_each cs (suc n) k h = elim (cases_lt k n) [
-  | inl less ↦ omega (arith, work_each cs n k less)
-  | inr last ↦ let same : k ≡ n = omega arith in omega (arith, ap (λ i. get_or cs i 0) same)
-]
-
+-- the work of tasks is at least the largest time, and at most this for each task
 largest_below_work : (cs : List ℕ) → largest cs ≤ work cs (length cs)
-largest_below_work cs = most_below 0 (work cs (length cs)) cs (omega arith) (work_each cs (length cs))
+largest_below_work cs = most_below 0 (work cs (length cs)) cs (omega arith) (work_each cs)
+
+pub work_below_largest : (cs : List ℕ) → work cs (length cs) ≤ length cs * largest cs
+work_below_largest cs = work_below (largest cs) cs (most_each 0 cs)
 
 -- the quotient that the bound is, where tasks share processors
 module _ (m w c : ℕ) (some : 1 ≤ m) (fits : c ≤ w) where
   abbrev quotient : ℕ
   quotient = (w + (m - 1) * c) / m
 
-  -- m processors are one processor, and m - 1 more
-  split : (x : ℕ) → m * x ≡ (m - 1) * x + x
-  split x = let one : m ≡ (m - 1) + 1 = omega arith in ap (λ k. k * x) one ∙ add-mul (m - 1) 1 x ∙ ap (λ y. (m - 1) * x + y) (one-mul x)
-
   at_least : c ≤ quotient
-  at_least = le-div c (w + (m - 1) * c) m some (omega (arith, mul_comm c m, split c))
+  at_least =
+      let one : m ≡ (m - 1) + 1 = omega arith in
+      let split = ap (λ k. k * c) one ∙ add-mul (m - 1) 1 c in
+      le-div c (w + (m - 1) * c) m some (omega (arith, mul_comm c m, split))
 
   at_most : quotient ≤ w
-  at_most =
-      let below = div_below (w + (m - 1) * c) m (w + 1) some (omega (arith, mul_comm (w + 1) m, mul-add m w 1, mul-one m, split w, mul-le (m - 1) c (m - 1) w (omega arith) fits)) in
-      omega (arith, below)
+  at_most = let below = div_below (w + (m - 1) * c) m (w + 1) some (grind arith) in omega (arith, below)
 
   rounded : (m * quotient ≤ w + (m - 1) * c) × (w + (m - 1) * c < m * (quotient + 1))
   rounded =
       let whole = div-add-mod' (w + (m - 1) * c) m in
       let rest = mod_below (w + (m - 1) * c) m some in
-      (omega (arith, whole, mul_comm m quotient), omega (arith, whole, rest, mul_comm m quotient, mul-add m quotient 1, mul-one m))
+      (grind arith, grind arith)
 
 module _ (m : ℕ) (some : 1 ≤ m) (cs : List ℕ) where
   abbrev w : ℕ
   w = work cs (length cs)
 
   alone : length cs ≤ m → bound m cs ≡ largest cs
-  alone few = cond-true _ (largest cs) (quotient m w (largest cs) some (largest_below_work cs)) (le-leb (length cs) m few)
+  alone few = grind (arith, nat_tests)
 
   shared : m < length cs → bound m cs ≡ quotient m w (largest cs) some (largest_below_work cs)
-  shared many = cond-false _ (largest cs) (quotient m w (largest cs) some (largest_below_work cs)) (lt-leb (length cs) m many)
+  shared many = grind (arith, nat_tests)
 
   pub bound_longest : Longest m cs (bound m cs)
   bound_longest = record {

@@ -1,19 +1,16 @@
 -- The first number of which something is told. Assumes nothing.
-use Rattle.std.proofs.Common.{◌≡◌, ℕ, zero, suc, ◌+◌, ◌<◌, Bool, true, false, cond, Some, None, Option, sym, refl, ap, ◌∙◌, inl, inr, add-one, arith}
+use Rattle.std.proofs.Common.{◌≡◌, ℕ, zero, suc, ◌<◌, true, false, length, Some, None, Option, is_some, sym, refl, ap, ◌∙◌, inl, inr, arith}
 use Rattle.plan.specs.Plan.{Plan}
-use Rattle.plan.proofs.Exits.{no_case}
-use Rattle.std.proofs.lemmas.Bool.{cases_lt, cond-true, cond-false}
+use Rattle.std.proofs.lemmas.Bool.{cases_lt}
+use Rattle.std.proofs.lemmas.Bool.Decides.{nat_tests}
 use Rattle.std.specs.Option.{option_or}
-use Rattle.verdict.specs.Verdict.{Told, passes, pair_told, failing, first_told}
+use Rattle.verdict.specs.Answers.{is_pair}
+use Rattle.verdict.specs.Verdict.{Told, passes, pair_told, failing, first_told, failing_from, failing_before, verdict}
 
 module _ {A : Type 0} (telling : ℕ → Option A) where
-  -- nothing is told of one number more
-  pub told_more : (n : ℕ) → first_told n telling ≡ None → telling n ≡ None → first_told (n + 1) telling ≡ None
-  told_more n before here = ap (λ k. first_told k telling) (add-one n) ∙ ap (λ o. option_or o (telling n)) before ∙ here
-
   -- something is told of the number after those of which nothing is told
   pub told_at : (n i : ℕ) (x : A) → i < n → first_told i telling ≡ None → telling i ≡ Some x → first_told n telling ≡ Some x
-  told_at zero i x within before here = let no : ⊥ = omega arith in absurd no
+  told_at zero i x within before here = absurd (omega arith)
   told_at (suc n) i x within before here = elim (cases_lt i n) [
     | inl less ↦ ap (λ o. option_or o (telling n)) (told_at n i x less before here)
     | inr last ↦ let same : i ≡ n = omega arith in ap (λ k. option_or (first_told k telling) (telling k)) (sym same) ∙ ap (λ o. option_or o (telling i)) before ∙ here
@@ -21,7 +18,7 @@ module _ {A : Type 0} (telling : ℕ → Option A) where
 
   -- where nothing is told, nothing is told of any number
   pub told_none_of : (n : ℕ) → first_told n telling ≡ None → (k : ℕ) → k < n → telling k ≡ None
-  told_none_of zero none k within = let no : ⊥ = omega arith in absurd no
+  told_none_of zero none k within = absurd (omega arith)
   told_none_of (suc n) none k within = elim (cases_lt k n) [
     | inl less ↦ told_none_of n (neither (first_told n telling) (telling n) none).0 k less
     | inr last ↦ let same : k ≡ n = omega arith in ap telling same ∙ (neither (first_told n telling) (telling n) none).1
@@ -29,14 +26,14 @@ module _ {A : Type 0} (telling : ℕ → Option A) where
     where
       neither : (x y : Option A) → option_or x y ≡ None → (x ≡ None) × (y ≡ None)
       neither None y e = (refl, e)
-      neither (Some z) y e = no_case (cc)
+      neither (Some z) y e = (cc, cc)
 
   -- where something is told, it is told of a number, and nothing of those before it
   abbrev ToldFirst : ℕ → A → Type 0
   ToldFirst n x = (k : ℕ) × (k < n) × (telling k ≡ Some x) × (first_told k telling ≡ None)
 
   pub told_some_of : (n : ℕ) (x : A) → first_told n telling ≡ Some x → ToldFirst n x
-  told_some_of zero x some = no_case (cc)
+  told_some_of zero x some = absurd (cc)
   told_some_of (suc n) x some = at (first_told n telling) refl some (told_some_of n x)
     where
       at : (o : Option A) → first_told n telling ≡ o → option_or o (telling n) ≡ Some x → (first_told n telling ≡ Some x → ToldFirst n x) → ToldFirst (suc n) x
@@ -44,27 +41,26 @@ module _ {A : Type 0} (telling : ℕ → Option A) where
       at (Some y) e h before = let earlier = before (e ∙ h) in (earlier.0, omega (arith, earlier.1), earlier.2, earlier.3)
 
 module _ (p : Plan) (i j : ℕ) where
-  -- a pair of which nothing is told passes, and one that is told fails, both ways round
-  pub told_of_pass : passes p i j ≡ true → failing p i j ≡ None
-  unfolding failing
-  told_of_pass e = cond-true (passes p i j) None (Some (pair_told p i j)) e
-
-  pub told_of_failure : passes p i j ≡ false → failing p i j ≡ Some (pair_told p i j)
-  unfolding failing
-  told_of_failure e = cond-false (passes p i j) None (Some (pair_told p i j)) e
-
+  -- a pair of which nothing is told passes, and one that is told fails
   pub pass_of_none : failing p i j ≡ None → passes p i j ≡ true
   unfolding failing
-  pass_of_none e = at (passes p i j) refl e
-    where
-      at : (b : Bool) → passes p i j ≡ b → cond b None (Some (pair_told p i j)) ≡ None → b ≡ true
-      at true f h = refl
-      at false f h = no_case (cc)
+  pass_of_none e = grind (arith, nat_tests)
 
   pub failure_of_some : (t : Told) → failing p i j ≡ Some t → (passes p i j ≡ false) × (pair_told p i j ≡ t)
   unfolding failing
-  failure_of_some t e = at (passes p i j) refl e
+  failure_of_some t e = grind (arith, nat_tests)
+
+  -- where i and j are modes and no pair, they are one mode, of which nothing is told
+  pub told_of_no_pair : i < length p.modes → j < length p.modes → is_pair p i j ≡ false → failing p i j ≡ None
+  unfolding failing
+  told_of_no_pair is_old is_new none = grind (arith, nat_tests)
+
+  -- what is told of a pair is the verdict, where nothing is told of the pairs before it
+  pub told_first : i < length p.modes → j < length p.modes → failing_before p i ≡ None → failing_from p i j ≡ None → is_some (failing p i j) ≡ true → failing p i j ≡ verdict p
+  told_first is_old is_new rows row some = at (failing p i j) refl some
     where
-      at : (b : Bool) → passes p i j ≡ b → cond b None (Some (pair_told p i j)) ≡ Some t → (b ≡ false) × (pair_told p i j ≡ t)
-      at true f h = no_case (cc)
-      at false f h = (refl, cc)
+      at : (o : Option Told) → failing p i j ≡ o → is_some o ≡ true → failing p i j ≡ verdict p
+      at None here h = cc
+      at (Some t) here h =
+          let n = length p.modes in
+          here ∙ sym (told_at (λ k. failing_from p k n) n i t is_old rows (told_at (failing p i) n j t is_new row here))

@@ -1,15 +1,10 @@
 -- The longest changeover out of a mode, in ticks. Assumes nothing.
 use Rattle.std.specs.Prelude.{◌≡◌, ℕ, zero, suc, ◌+◌, ◌-◌, ◌*◌, ◌/◌, ◌<◌, ◌≤◌, max, cond, List, map, length, fold, nat_le, slice_index}
-use Rattle.plan.specs.declared.tables.Task.{Task as TaskTable}
 use Rattle.plan.specs.Plan.{Mode, Plan, mode_at}
 
 -- the execution times C of the tasks of a mode
 abbrev pub costs : Mode → List ℕ
 costs m = map (λ t. t.cost) m.tasks
-
--- those of a table of tasks
-abbrev pub table_costs : List TaskTable → List ℕ
-table_costs ts = map (λ t. t.cost) ts
 
 -- W(k), the work of the first k tasks
 unfoldable pub work : List ℕ → ℕ → ℕ

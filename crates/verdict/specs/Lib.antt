@@ -1,3 +1,4 @@
+pub mod Tables
 pub mod Bound
 pub mod Enabling
 pub mod Verdict

@@ -5,7 +5,7 @@ ghost use Rattle.verdict.specs.Answers.{refusal, adopted};
 ghost use Rattle.verdict.specs.Sound.{Judged};
 ghost use Rattle.verdict.specs.Verdict.{verdict};
 
-use crate::pairs::verdict_on;
+use crate::failing::first_failing;
 use crate::refusals::Unsound;
 use crate::sound::SoundPlan;
 use plan::Draft;
@@ -17,11 +17,9 @@ pub fn adopt(draft: Draft, place: &mut SoundPlan) -> Result<(), Unsound>
     ensures place { place.new.draft.plan ≡ adopted (verdict (plan_of draft.plan)) draft.plan place.old.draft.plan }
     ensures law { Judged (plan_of draft.plan) (refusal result) }
 {
-    match verdict_on(&draft) {
-        Some(unsound) => Err(unsound),
-        None => {
-            *place = SoundPlan::new(draft);
-            Ok(())
-        }
+    if let Some(unsound) = first_failing(&draft) {
+        return Err(unsound);
     }
+    *place = SoundPlan::new(draft);
+    Ok(())
 }

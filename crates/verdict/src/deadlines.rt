@@ -1,21 +1,26 @@
 // The enabling deadlines of a changeover, and the least of them.
-ghost use Rattle.std.specs.Prelude.{◌≡◌, ℕ, ◌<◌, ◌≤◌, map, length, take, slice_index};
+ghost use Rattle.std.specs.Prelude.{◌≡◌, take, slice_index};
 ghost use Rattle.ordering.specs.Keys.{by_keys};
-ghost use Rattle.plan.specs.Held.{task_of, plan_of};
-ghost use Rattle.plan.specs.Sizes.{most_modes, most_tasks};
-ghost use Rattle.verdict.specs.Enabling.{deadlines, deadline_keys, earliest};
+ghost use Rattle.plan.specs.Held.{plan_of};
+ghost use Rattle.plan.specs.Plan.{mode_at};
+ghost use Rattle.verdict.specs.Enabling.{deadlines, deadline_keys, earliest, tasks_in};
 ghost use Rattle.verdict.specs.EarlierFirst.{deadlines_strict};
 
-use crate::tasks::tasks_of;
-use fields::first;
+use crate::pair::PairOf;
 use ordering::{Order, first_in_order};
-use plan::{Draft, TASKS, Task};
+use plan::{TASKS, Task};
+use std::array;
 
 // An enabling deadline, with the task that it is for.
-#[derive(Clone, Copy)]
+#[derive(Clone, Copy, Debug, PartialEq, Eq)]
 pub(crate) struct Deadline {
     pub(crate) ticks: u16,
     pub(crate) task: u8,
+}
+
+impl Deadline {
+    // What unused places hold.
+    const BLANK: Deadline = Deadline { ticks: 0, task: 0 };
 }
 
 // The earlier deadline goes first, and of equal ones that of the lower task.
@@ -28,47 +33,41 @@ impl Order<Deadline> for ByDeadline {
     ghost strict = { λ _. deadlines_strict };
 
     fn goes_before(&self, a: &Deadline, b: &Deadline) -> bool {
-        a.ticks < b.ticks || (a.ticks == b.ticks && a.task < b.task)
+        (a.ticks, a.task) < (b.ticks, b.task)
     }
 }
 
-// The enabling deadline of a task when a mode is left.
-fn deadline_of(task: &Task, number: usize, old: u8) -> Deadline
-    requires few { number < most_tasks }
-    requires old { old < most_modes }
-    ensures ticks { result.ticks ≡ slice_index task.now.enabling old }
-    ensures task { result.task ≡ number }
-{
-    Deadline {
-        ticks: task.enabling[usize::from(old)],
-        task: number as u8,
+impl PairOf<'_> {
+    // The enabling deadline of a task when the old mode is left.
+    fn deadline_of(&self, task: &Task) -> u16
+        ensures { result ≡ slice_index task.now.enabling self.now.old }
+    {
+        task.enabling[usize::from(self.old)]
     }
-}
 
-// The enabling deadlines of some tasks when a mode is left, in the first places.
-fn deadlines_of(tasks: &[Task], old: u8) -> [Deadline; TASKS]
-    requires few { length tasks.now ≤ most_tasks }
-    requires old { old < most_modes }
-    ensures { (modes : ℕ) → old < modes → take (length tasks.now) result ≡ deadlines old (map (task_of modes) tasks.now) }
-{
-    let mut found = [Deadline { ticks: 0, task: 0 }; TASKS];
-    for (number, task) in tasks.iter().enumerate() {
-        found[number] = deadline_of(task, number, old);
+    // The enabling deadlines of the tasks of the new mode, in the first places.
+    fn deadlines(&self) -> [Deadline; TASKS]
+        ensures { let p = plan_of self.now.draft.now.plan in take (tasks_in p self.now.new) result ≡ deadlines self.now.old (mode_at p self.now.new).tasks }
+    {
+        let tasks = self.tasks();
+        array::from_fn(|number| match tasks.get(number) {
+            Some(task) => Deadline {
+                ticks: self.deadline_of(task),
+                task: u8::try_from(number).unwrap(),
+            },
+            None => Deadline::BLANK,
+        })
     }
-    found
-}
 
-// The least enabling deadline of the mode that is entered, and the lowest task that has it.
-pub(crate) fn earliest_deadline(draft: &Draft, old: u8, new: u8) -> Deadline
-    requires old { old < length (plan_of draft.now.plan).modes }
-    requires new { new < length (plan_of draft.now.plan).modes }
-    ensures { result ≡ earliest (plan_of draft.now.plan) old new }
-{
-    let tasks = tasks_of(draft, new);
-    let deadlines = deadlines_of(tasks, old);
-    match first_in_order(&ByDeadline, first(&deadlines, tasks.len())) {
-        Some(place) => deadlines[place],
-        // Every mode has a task.
-        None => unreachable(),
+    // The least enabling deadline, and the lowest task that has it.
+    pub(crate) fn earliest_deadline(&self) -> Deadline
+        ensures { result ≡ earliest (plan_of self.now.draft.now.plan) self.now.old self.now.new }
+    {
+        let deadlines = self.deadlines();
+        match first_in_order(&ByDeadline, &deadlines[..self.tasks().len()]) {
+            Some(place) => deadlines[place],
+            // Every mode has a task.
+            None => unreachable!(),
+        }
     }
 }

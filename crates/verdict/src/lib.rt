@@ -4,10 +4,11 @@
 mod adoption;
 mod bounds;
 mod deadlines;
-mod pairs;
+mod failing;
+mod modes;
+mod pair;
 mod refusals;
 mod sound;
-mod tasks;
 
 pub use adoption::adopt;
 pub use refusals::{NoMode, Unsound};

@@ -3,12 +3,12 @@ ghost use Rattle.std.specs.Prelude.{◌≡◌, ◌≤◌, length, IfSome, IfOk};
 ghost use Rattle.plan.specs.Builtin.{least};
 ghost use Rattle.plan.specs.Held.{plan_of, plan_table};
 ghost use Rattle.plan.specs.Plan.{Within};
-ghost use Rattle.verdict.specs.Answers.{numbered, bound_answer, is_pair, changeover};
+ghost use Rattle.verdict.specs.Answers.{numbered, bound_answer, changeover};
 ghost use Rattle.verdict.specs.Bound.{LongestOf};
 ghost use Rattle.verdict.specs.Sound.{EveryPairPasses, InTime};
 
-use crate::bounds::bound_of;
-use crate::pairs::judge_pair;
+use crate::modes::ModeOf;
+use crate::pair::PairOf;
 use crate::refusals::NoMode;
 use plan::Draft;
 
@@ -17,7 +17,7 @@ use plan::Draft;
 #[derive(Drop)]
 pub struct SoundPlan {
     draft: Draft,
-    ghost within: { ∥ Within (plan_of draft.plan) ∥₁ },
+    ghost within: { Within (plan_of draft.plan) },
     ghost sound: { EveryPairPasses (plan_of draft.plan) },
 }
 
@@ -52,10 +52,8 @@ impl SoundPlan {
         ensures law { IfOk result (LongestOf (plan_of self.now.draft.plan) mode) }
         ensures sound { IfOk result (InTime (plan_of self.now.draft.plan) mode) }
     {
-        if mode >= self.modes() {
-            return Err(NoMode);
-        }
-        Ok(bound_of(&self.draft, mode))
+        let mode = ModeOf::of(&self.draft, mode).ok_or(NoMode)?;
+        Ok(mode.bound())
     }
 
     // The longest changeover from one mode to another, in ticks, and the least enabling deadline, which it meets.
@@ -64,16 +62,7 @@ impl SoundPlan {
         ensures value { result ≡ changeover (plan_of self.now.draft.plan) old new }
         ensures sound { IfSome result (λ pair. pair.0 ≤ pair.1) }
     {
-        if !self.has_pair(old, new) {
-            return None;
-        }
-        Some(judge_pair(&self.draft, old, new))
-    }
-
-    // Whether these are two modes of it.
-    fn has_pair(&self, old: u8, new: u8) -> bool
-        ensures { result ≡ is_pair (plan_of self.now.draft.plan) old new }
-    {
-        old < self.modes() && new < self.modes() && old != new
+        let pair = PairOf::of(&self.draft, old, new)?;
+        Some(pair.judgement())
     }
 }

@@ -1,8 +1,6 @@
+-- The table is computed.
 use Rattle.cases.proofs.Computed.{facts}
 use Rattle.cases.proofs.worked_file.Goals as goal
 
-pub returns : goal.returns
-returns c = record {
-  file = c.file_bytes.ensures;
-  facts = facts;
-}
+pub returns-clause-facts : goal.returns-clause-facts
+returns-clause-facts c = facts

@@ -1,17 +1,16 @@
 -- A pair of a sound plan passes, so its bound is at most the least deadline too.
-use Rattle.std.proofs.Common.{sym, ap, arith, rules}
+use Rattle.std.proofs.Common.{◌≡◌, ap, arith, rules, tests}
 use Rattle.plan.specs.Held.{plan_of}
-use Rattle.verdict.proofs.Judge.{meets_earliest, pair_from}
-use Rattle.verdict.proofs.Limits.{some_tasks}
+use Rattle.verdict.specs.Sound.{Pair}
+use Rattle.verdict.specs.Verdict.{judgement}
+use Rattle.verdict.proofs.Judge.{meets_earliest}
 use Rattle.verdict.proofs.sound.SoundPlan.changeover.Goals as goal
 
-pub returns : goal.returns
-returns c =
+pub returns-clause-sound : goal.returns-clause-sound
+returns-clause-sound c =
     let plan = c.args.self.now in
     let p = plan_of plan.draft.plan in
-    let pair = pair_from p c.args.old c.args.new (sym c.if-not-has_pair.ensures) in
-    let meets = meets_earliest p (some_tasks plan.draft) plan.sound c.args.old c.args.new pair in
-    record {
-      value = search rules;
-      sound = omega (arith, meets, ap (λ r. r.0) c.judge_pair.ensures, ap (λ r. r.1) c.judge_pair.ensures);
-    }
+    let pair : Pair p c.args.old c.args.new = search (rules, tests) in
+    let meets = meets_earliest p plan.within plan.sound c.args.old c.args.new pair in
+    let is : c.judgement.result ≡ judgement p c.args.old c.args.new = search rules in
+    omega (arith, meets, ap (λ r. r.0) is, ap (λ r. r.1) is)
