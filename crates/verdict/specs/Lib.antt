@@ -4,3 +4,4 @@ pub mod Verdict
 pub mod Sound
 pub mod Answers
 pub mod EarlierFirst
+pub mod Text

@@ -8,7 +8,9 @@ mod pairs;
 mod refusals;
 mod sound;
 mod tasks;
+mod ticks;
 
 pub use adoption::adopt;
 pub use refusals::{NoMode, Unsound};
 pub use sound::SoundPlan;
+pub use ticks::Ticks;
