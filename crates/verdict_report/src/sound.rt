@@ -17,13 +17,15 @@ impl fmt::Display for SoundText<'_> {
 
     #[tactic(auto, unfolding(crate::specs::VerdictText::sound_line))]
     fn fmt<W: fmt::Write>(&self, f: &mut fmt::Formatter<W>) -> fmt::Result {
-        writeln!(f, "sound: every changeover ends within every enabling deadline")?;
+        writeln!(
+            f,
+            "sound: every changeover ends within every enabling deadline"
+        )?;
         write_modes(f, self.0)
     }
 }
 
 // All modes, in their order, each with the changeovers from it.
-#[tactic(auto, using(crate::proofs::Counts::part_written))]
 fn write_modes<W: fmt::Write>(f: &mut fmt::Formatter<W>, plan: &SoundPlan) -> fmt::Result
     ensures { WritesOnOk W.write_str_gives f.old result (modes_text (plan_of plan.now.draft.plan)) f.new }
 {
@@ -41,17 +43,9 @@ fn write_pairs<W: fmt::Write>(f: &mut fmt::Formatter<W>, plan: &SoundPlan, old: 
     ensures { WritesOnOk W.write_str_gives f.old result (pairs_text (plan_of plan.now.draft.plan) old) f.new }
 {
     for new in 0..plan.modes() {
-        write_changeover(f, plan, old, new)?;
+        if let Some((bound, deadline)) = plan.changeover(old, new) {
+            write_pair(f, new, bound, u32::from(deadline))?;
+        }
     }
     Ok(())
-}
-
-// A changeover, where there is one between these modes.
-fn write_changeover<W: fmt::Write>(f: &mut fmt::Formatter<W>, plan: &SoundPlan, old: u8, new: u8) -> fmt::Result
-    ensures { WritesOnOk W.write_str_gives f.old result (changeover_text (plan_of plan.now.draft.plan) old new) f.new }
-{
-    match plan.changeover(old, new) {
-        Some((bound, deadline)) => write_pair(f, new, bound, u32::from(deadline)),
-        None => Ok(()),
-    }
 }
