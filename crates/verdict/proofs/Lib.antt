@@ -5,3 +5,4 @@ pub mod Earliest
 pub mod Told
 pub mod Judge
 pub mod Filled
+pub mod Text

@@ -5,3 +5,4 @@ pub mod Verdict
 pub mod Sound
 pub mod Answers
 pub mod EarlierFirst
+pub mod Text

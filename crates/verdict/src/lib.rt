@@ -9,7 +9,9 @@ mod modes;
 mod pair;
 mod refusals;
 mod sound;
+mod ticks;
 
 pub use adoption::adopt;
 pub use refusals::{NoMode, Unsound};
 pub use sound::SoundPlan;
+pub use ticks::Ticks;

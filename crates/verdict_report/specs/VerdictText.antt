@@ -1,19 +1,12 @@
 -- The text of a verdict: the longest changeovers and their margins, or the pair that fails. Assumes nothing.
-use Rattle.std.specs.Prelude.{ℕ, ◌-◌, ◌*◌, cond, List, [], ◌∷◌, ◌++◌, length, Some, None, codes, decimal, Option, ◌==◌}
+use Rattle.std.specs.Prelude.{ℕ, ◌-◌, ◌*◌, List, [], ◌∷◌, ◌++◌, length, Some, None, codes, decimal, Option}
 use Rattle.std.specs.List.{range_with_len, flat_map}
 use Rattle.plan.specs.Plan.{Plan}
 use Rattle.fields.specs.Line.{line}
 use Rattle.verdict.specs.Answers.{changeover}
 use Rattle.verdict.specs.Bound.{bound_of}
+use Rattle.verdict.specs.Text.{ticks, unsound_text}
 use Rattle.verdict.specs.Verdict.{Told, verdict}
-
--- the unit of a number of ticks
-unfoldable pub unit : ℕ → List ℕ
-unit n = cond (n == 1) (codes "tick") (codes "ticks")
-
--- a number of ticks with its unit
-unfoldable pub ticks : ℕ → List ℕ
-ticks n = decimal n ++ (codes " " ++ unit n)
 
 -- the milliseconds of a tick
 abbrev pub tick_ms : ℕ
@@ -55,18 +48,6 @@ sound_line = line (codes "sound: every changeover ends within every enabling dea
 -- a sound plan: the first line, and its modes
 abbrev pub sound_text : Plan → List ℕ
 sound_text p = sound_line ++ modes_text p
-
--- the first line of a plan that is refused: why
-unfoldable pub refusal_line : ℕ → List ℕ
-refusal_line n = line (codes "refused " ∷ decimal n ∷ codes ": a changeover may outlast an enabling deadline" ∷ [])
-
--- the second line: the pair, the bound, the task and its deadline
-unfoldable pub failing_line : Told → List ℕ
-failing_line t = line (codes "from mode " ∷ decimal t.old ∷ codes " to mode " ∷ decimal t.new ∷ codes ": at most " ∷ ticks t.bound ∷ codes ", and the enabling deadline of task " ∷ decimal t.task ∷ codes " is " ∷ ticks t.deadline ∷ [])
-
--- a plan that is refused: the two lines
-abbrev pub unsound_text : Told → List ℕ
-unsound_text t = refusal_line t.number ++ failing_line t
 
 -- a plan of which nothing is told, or what is told of it
 abbrev pub told_text : Plan → Option Told → List ℕ

@@ -3,9 +3,7 @@
 
 mod lines;
 mod sound;
-mod unsound;
 mod verdicts;
 
-pub use sound::sound_text;
-pub use unsound::unsound_text;
-pub use verdicts::verdict_text;
+pub use sound::SoundText;
+pub use verdicts::{sound_text, unsound_text, verdict_text};

@@ -1,47 +1,43 @@
-// The lines of a verdict.
-ghost use Rattle.std.specs.Prelude.{◌≡◌, ◌≤◌, IfOk, string_bytes};
-ghost use Rattle.verdict_report.specs.VerdictText.{unit, ticks, mode_line, pair_line};
+// The lines of a sound plan.
+ghost use Rattle.std.specs.Prelude.{◌≤◌};
+ghost use Rattle.std.specs.Fmt.{WritesOnOk};
+ghost use Rattle.verdict_report.specs.VerdictText.{mode_line, pair_line};
 
-use std::alloc::{AllocError, Global};
+use std::fmt;
+use verdict::Ticks;
 
 // The milliseconds of a tick.
 const TICK_MS: u64 = 10;
 
-// The unit of a number of ticks.
-fn unit(number: u32) -> &'static str
-    ensures { result.now ≡ unit number }
-{
-    if number == 1 { "tick" } else { "ticks" }
-}
-
-// A number of ticks with its unit.
-pub(crate) fn ticks_text(heap: Global, number: u32) -> Result<String, AllocError>
-    ensures { IfOk result (λ s. string_bytes s ≡ ticks number) }
-{
-    let unit = unit(number);
-    format!(in heap; "{number} {unit}")
-}
-
 // The line of a mode: the longest changeover out of it.
-pub(crate) fn mode_line(heap: Global, mode: u8, bound: u32) -> Result<String, AllocError>
-    ensures { IfOk result (λ s. string_bytes s ≡ mode_line mode bound) }
+#[tactic(auto, unfolding(crate::specs::VerdictText::mode_line))]
+pub(crate) fn write_mode<W: fmt::Write>(
+    f: &mut fmt::Formatter<W>,
+    mode: u8,
+    bound: u32,
+) -> fmt::Result
+    ensures { WritesOnOk W.write_str_gives f.old result (mode_line mode bound) f.new }
 {
-    let time = ticks_text(heap, bound)?;
+    let time = Ticks(bound);
     let ms = u64::from(bound) * TICK_MS;
-    format!(in heap; "leaving mode {mode}: at most {time}, {ms} ms\n")
+    writeln!(f, "leaving mode {mode}: at most {time}, {ms} ms")
 }
 
 // The line of a changeover: the least enabling deadline of the mode that is entered, and the margin.
-pub(crate) fn pair_line(
-    heap: Global,
+#[tactic(auto, unfolding(crate::specs::VerdictText::pair_line))]
+pub(crate) fn write_pair<W: fmt::Write>(
+    f: &mut fmt::Formatter<W>,
     new: u8,
     bound: u32,
-    deadline: u16,
-) -> Result<String, AllocError>
+    deadline: u32,
+) -> fmt::Result
     requires { bound ≤ deadline }
-    ensures { IfOk result (λ s. string_bytes s ≡ pair_line new (bound, deadline)) }
+    ensures { WritesOnOk W.write_str_gives f.old result (pair_line new (bound, deadline)) f.new }
 {
-    let least = ticks_text(heap, u32::from(deadline))?;
-    let margin = ticks_text(heap, u32::from(deadline) - bound)?;
-    format!(in heap; "  to mode {new}: least enabling deadline {least}, margin {margin}\n")
+    let margin = Ticks(deadline - bound);
+    let deadline = Ticks(deadline);
+    writeln!(
+        f,
+        "  to mode {new}: least enabling deadline {deadline}, margin {margin}"
+    )
 }

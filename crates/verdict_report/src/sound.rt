@@ -1,79 +1,51 @@
 // The text of a sound plan: the longest changeover out of each mode, with the margin of each changeover.
-ghost use Rattle.std.specs.Prelude.{◌≡◌, ◌<◌, length, IfOk, string_bytes};
+ghost use Rattle.std.specs.Prelude.{Some};
+ghost use Rattle.std.specs.Fmt.{WritesOnOk};
 ghost use Rattle.plan.specs.Held.{plan_of};
-ghost use Rattle.verdict.specs.Bound.{bound_of};
-ghost use Rattle.verdict_report.specs.VerdictText.{mode_line, changeover_text, pairs_text, mode_text, modes_text, sound_line, sound_text};
+ghost use Rattle.verdict_report.specs.VerdictText.{changeover_text, modes_text, pairs_text, sound_text};
 
-use crate::lines::{mode_line, pair_line};
-use std::alloc::{AllocError, Global};
+use crate::lines::{write_mode, write_pair};
+use std::fmt;
 use verdict::SoundPlan;
 
-// A changeover, where there is one between these modes.
-fn changeover_text(heap: Global, plan: &SoundPlan, old: u8, new: u8) -> Result<String, AllocError>
-    ensures { IfOk result (λ s. string_bytes s ≡ changeover_text (plan_of plan.now.draft.plan) old new) }
-{
-    match plan.changeover(old, new) {
-        Some((bound, deadline)) => pair_line(heap, new, bound, deadline),
-        None => Ok(String::new(heap)),
+// A sound plan, which prints as its text.
+#[derive(Clone, Copy)]
+pub struct SoundText<'a>(pub &'a SoundPlan);
+
+impl fmt::Display for SoundText<'_> {
+    ghost output = { λ text. Some (sound_text (plan_of text.0.now.draft.plan)) };
+
+    #[tactic(auto, unfolding(crate::specs::VerdictText::sound_line))]
+    fn fmt<W: fmt::Write>(&self, f: &mut fmt::Formatter<W>) -> fmt::Result {
+        writeln!(
+            f,
+            "sound: every changeover ends within every enabling deadline"
+        )?;
+        write_modes(f, self.0)
     }
+}
+
+// All modes, in their order, each with the changeovers from it.
+fn write_modes<W: fmt::Write>(f: &mut fmt::Formatter<W>, plan: &SoundPlan) -> fmt::Result
+    ensures { WritesOnOk W.write_str_gives f.old result (modes_text (plan_of plan.now.draft.plan)) f.new }
+{
+    for mode in 0..plan.modes() {
+        let bound = plan.bound(mode).unwrap();
+        write_mode(f, mode, bound)?;
+        write_pairs(f, plan, mode)?;
+    }
+    Ok(())
 }
 
 // The changeovers from a mode, to each other mode.
-fn pairs_text(heap: Global, plan: &SoundPlan, old: u8) -> Result<String, AllocError>
-    ensures { IfOk result (λ s. string_bytes s ≡ pairs_text (plan_of plan.now.draft.plan) old) }
+#[tactic(auto, using(crate::proofs::Counts::part_written))]
+fn write_pairs<W: fmt::Write>(f: &mut fmt::Formatter<W>, plan: &SoundPlan, old: u8) -> fmt::Result
+    ensures { WritesOnOk W.write_str_gives f.old result (pairs_text (plan_of plan.now.draft.plan) old) f.new }
 {
-    let mut text = String::new(heap);
     for new in 0..plan.modes() {
-        text.push_str(&changeover_text(heap, plan, old, new)?)?;
+        if let Some((bound, deadline)) = plan.changeover(old, new) {
+            write_pair(f, new, bound, u32::from(deadline))?;
+        }
     }
-    Ok(text)
-}
-
-// The line of a mode.
-fn bound_text(heap: Global, plan: &SoundPlan, mode: u8) -> Result<String, AllocError>
-    requires { mode < length (plan_of plan.now.draft.plan).modes }
-    ensures { IfOk result (λ s. string_bytes s ≡ mode_line mode (bound_of (plan_of plan.now.draft.plan) mode)) }
-{
-    match plan.bound(mode) {
-        Ok(bound) => mode_line(heap, mode, bound),
-        // It is one of the plan's modes.
-        Err(_) => unreachable(),
-    }
-}
-
-// A mode, and the changeovers from it.
-fn mode_text(heap: Global, plan: &SoundPlan, mode: u8) -> Result<String, AllocError>
-    requires { mode < length (plan_of plan.now.draft.plan).modes }
-    ensures { IfOk result (λ s. string_bytes s ≡ mode_text (plan_of plan.now.draft.plan) mode) }
-{
-    let line = bound_text(heap, plan, mode)?;
-    let pairs = pairs_text(heap, plan, mode)?;
-    format!(in heap; "{line}{pairs}")
-}
-
-// All modes, in their order.
-fn modes_text(heap: Global, plan: &SoundPlan) -> Result<String, AllocError>
-    ensures { IfOk result (λ s. string_bytes s ≡ modes_text (plan_of plan.now.draft.plan)) }
-{
-    let mut text = String::new(heap);
-    for mode in 0..plan.modes() {
-        text.push_str(&mode_text(heap, plan, mode)?)?;
-    }
-    Ok(text)
-}
-
-// The first line.
-fn first_line() -> &'static str
-    ensures { result.now ≡ sound_line }
-{
-    "sound: every changeover ends within every enabling deadline\n"
-}
-
-// The whole text.
-pub fn sound_text(heap: Global, plan: &SoundPlan) -> Result<String, AllocError>
-    ensures { IfOk result (λ s. string_bytes s ≡ sound_text (plan_of plan.now.draft.plan)) }
-{
-    let line = first_line();
-    let modes = modes_text(heap, plan)?;
-    format!(in heap; "{line}{modes}")
+    Ok(())
 }
