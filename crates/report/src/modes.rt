@@ -13,7 +13,7 @@ use std::fmt;
 // The names of the enabling deadlines, by the mode that is left.
 const ENABLING: [&str; MODES] = ["E0", "E1", "E2", "E3", "E4", "E5", "E6", "E7"];
 
-// A mode of a plan that counts `count` modes.
+// A mode as a person reads it, in a plan that counts `count` modes.
 #[derive(Clone, Copy)]
 pub(crate) struct ModeText<'a> {
     pub(crate) number: usize,
@@ -23,6 +23,7 @@ pub(crate) struct ModeText<'a> {
 
 impl ModeText<'_> {
     // The rest of a row of the table: one of `cells` for each mode of the plan but this one.
+    // The clause has the options of `{:>6}` as a `format_spec`.
     fn finish_row<T: fmt::Display, W: fmt::Write>(
         &self,
         f: &mut fmt::Formatter<W>,
@@ -60,8 +61,8 @@ impl ModeText<'_> {
             cost,
             deadline,
             separation,
-            ref enabling,
-        } = *task;
+            enabling,
+        } = task;
         write!(f, "{number:>6}{cost:>6}{deadline:>6}{separation:>6}")?;
         self.finish_row(f, enabling)
     }
