@@ -10,6 +10,9 @@ use fields::first;
 use plan::{MODES, Mode, Task};
 use std::fmt;
 
+// How many columns a cell has.
+const CELL: usize = 6;
+
 // The names of the enabling deadlines, by the mode that is left.
 const ENABLING: [&str; MODES] = ["E0", "E1", "E2", "E3", "E4", "E5", "E6", "E7"];
 
@@ -34,7 +37,7 @@ impl ModeText<'_> {
     {
         for (old, cell) in first(cells, self.count).iter().enumerate() {
             if old != self.number {
-                write!(f, "{cell:>6}")?;
+                write!(f, "{cell:>CELL$}")?;
             }
         }
         writeln!(f)
@@ -63,7 +66,10 @@ impl ModeText<'_> {
             separation,
             enabling,
         } = task;
-        write!(f, "{number:>6}{cost:>6}{deadline:>6}{separation:>6}")?;
+        write!(
+            f,
+            "{number:>CELL$}{cost:>CELL$}{deadline:>CELL$}{separation:>CELL$}"
+        )?;
         self.finish_row(f, enabling)
     }
 }
