@@ -3,12 +3,8 @@
 
 use planfile::{file_text, plan_bytes};
 
-fn run(rt: &HostRuntime) -> anyhow::Result<()> {
-    let bytes = plan_bytes(rt, "plan.bin")?;
+fn main(rt: HostRuntime) -> anyhow::Result<()> {
+    let bytes = plan_bytes(&rt, "plan.bin")?;
     rt.print(file_text(rt.alloc(), &bytes)?)?;
     Ok(())
-}
-
-fn main(rt: HostRuntime) -> anyhow::Result<()> {
-    run(&rt)
 }

@@ -32,20 +32,11 @@ const FILES: [&str; 24] = [
     "eight_modes.bin",
 ];
 
-fn show(rt: &HostRuntime, name: &str) -> anyhow::Result<()> {
-    let bytes = plan_bytes(rt, name)?;
-    println!(rt; "{name}")?;
-    rt.print(file_text(rt.alloc(), &bytes)?)?;
-    Ok(())
-}
-
-fn run(rt: &HostRuntime) -> anyhow::Result<()> {
+fn main(rt: HostRuntime) -> anyhow::Result<()> {
     for name in FILES {
-        show(rt, name)?;
+        let bytes = plan_bytes(&rt, name)?;
+        println!(rt; "{name}")?;
+        rt.print(file_text(rt.alloc(), &bytes)?)?;
     }
     Ok(())
-}
-
-fn main(rt: HostRuntime) -> anyhow::Result<()> {
-    run(&rt)
 }

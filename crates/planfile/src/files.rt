@@ -10,21 +10,21 @@ use std::alloc::{AllocError, Global};
 use verdict_report::verdict_text;
 
 // What a draft says, and the verdict on it.
-fn judged_text(heap: Global, draft: Draft) -> Result<String, AllocError>
+fn judged_text(alloc: Global, draft: Draft) -> Result<String, AllocError>
     ensures { IfOk result (λ s. string_bytes s ≡ judged_text (plan_of draft.plan)) }
 {
-    let plan = draft_text(heap, &draft)?;
-    let verdict = verdict_text(heap, draft)?;
-    format!(in heap; "{plan}{verdict}")
+    let plan = draft_text(alloc, &draft)?;
+    let verdict = verdict_text(alloc, draft)?;
+    format!(in alloc; "{plan}{verdict}")
 }
 
 // What the file says and the verdict on it, or why it is refused.
-pub fn file_text(heap: Global, bytes: &[u8]) -> Result<String, AllocError>
+pub fn file_text(alloc: Global, bytes: &[u8]) -> Result<String, AllocError>
     ensures { IfOk result (λ s. string_bytes s ≡ file_text (decode bytes.now)) }
 {
     let mut draft = Draft::least();
     match read(bytes, &mut draft) {
-        Ok(()) => judged_text(heap, draft),
-        Err(fault) => fault_text(heap, &fault),
+        Ok(()) => judged_text(alloc, draft),
+        Err(fault) => fault_text(alloc, &fault),
     }
 }

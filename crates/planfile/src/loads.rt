@@ -17,11 +17,8 @@ pub fn plan_bytes(rt: &HostRuntime, path: &str) -> io::Result<Vec<u8>>
         Ok(file) => {
             file.take(DECIDING_BYTES as u64).read_to_end(&mut bytes)?;
         }
-        Err(error) => {
-            if error.kind() != ErrorKind::NotFound {
-                return Err(error);
-            }
-        }
+        Err(error) if error.kind() == ErrorKind::NotFound => {}
+        Err(error) => return Err(error),
     }
     // No contract tells how much `take` lets through, so the limit is set once more where it can be proved.
     bytes.truncate(DECIDING_BYTES);

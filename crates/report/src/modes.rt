@@ -10,10 +10,13 @@ use fields::first;
 use plan::{MODES, Mode, Task};
 use std::fmt;
 
+// How many columns a cell has.
+const CELL: usize = 6;
+
 // The names of the enabling deadlines, by the mode that is left.
 const ENABLING: [&str; MODES] = ["E0", "E1", "E2", "E3", "E4", "E5", "E6", "E7"];
 
-// A mode of a plan that counts `count` modes.
+// A mode as a person reads it, in a plan that counts `count` modes.
 #[derive(Clone, Copy)]
 pub(crate) struct ModeText<'a> {
     pub(crate) number: usize,
@@ -23,6 +26,7 @@ pub(crate) struct ModeText<'a> {
 
 impl ModeText<'_> {
     // The rest of a row of the table: one of `cells` for each mode of the plan but this one.
+    // The clause has the options of `{:>6}` as a `format_spec`.
     fn finish_row<T: fmt::Display, W: fmt::Write>(
         &self,
         f: &mut fmt::Formatter<W>,
@@ -33,7 +37,7 @@ impl ModeText<'_> {
     {
         for (old, cell) in first(cells, self.count).iter().enumerate() {
             if old != self.number {
-                write!(f, "{cell:>6}")?;
+                write!(f, "{cell:>CELL$}")?;
             }
         }
         writeln!(f)
@@ -60,9 +64,12 @@ impl ModeText<'_> {
             cost,
             deadline,
             separation,
-            ref enabling,
-        } = *task;
-        write!(f, "{number:>6}{cost:>6}{deadline:>6}{separation:>6}")?;
+            enabling,
+        } = task;
+        write!(
+            f,
+            "{number:>CELL$}{cost:>CELL$}{deadline:>CELL$}{separation:>CELL$}"
+        )?;
         self.finish_row(f, enabling)
     }
 }

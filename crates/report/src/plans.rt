@@ -9,7 +9,7 @@ use plan::{Draft, Plan};
 use std::alloc::{AllocError, Global};
 use std::fmt;
 
-// Any plan, within its limits or not.
+// A plan as a person reads it, within its limits or not.
 #[derive(Clone, Copy)]
 struct PlanText<'a>(&'a Plan);
 
