@@ -39,6 +39,7 @@ impl fmt::Display for Unsound {
         let number = Self::NUMBER;
         let Unsound { old, new, task, .. } = *self;
         let bound = Ticks(self.bound);
+        // Not `u32::from`: with that the search does not close the goal of this text.
         let deadline = Ticks(self.deadline as u32);
         write!(
             f,
