@@ -13,4 +13,4 @@ use Rattle.cases.specs.Table.{Facts}
 
 pub facts : Facts
 unfolding binary bits field whole part read_each enabling_layout task_layout mode_layout plan_layout stray decode work rank first earliest_of failing
-facts = (refl, (refl, (refl, (refl, (refl, (refl, (refl, (refl, (refl, (refl, (refl, tt)))))))))))
+facts = (refl, (refl, (refl, (refl, (refl, (refl, (refl, (refl, (refl, (refl, (refl, (refl, (refl, (refl, (refl, tt)))))))))))))))

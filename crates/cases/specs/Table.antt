@@ -1,7 +1,7 @@
 -- The worked examples, one row each. Assumes nothing.
 use Rattle.std.specs.Prelude.{◌≡◌, ℕ, List, [], ◌∷◌, ◌++◌, map, length, Some, None, Ok, Err, Option, Result}
 use Rattle.std.specs.List.{range_with_len, AllByRecursion}
-use Rattle.fields.specs.Faults.{Told, none}
+use Rattle.fields.specs.Faults.{Told, five}
 use Rattle.plan.specs.Decode.{decode}
 use Rattle.plan.specs.Plan.{Plan}
 use Rattle.verdict.specs.Bound.{bound, bound_of}
@@ -21,10 +21,17 @@ abbrev pub judged : Result Plan Told → Result Judgement Told
 judged (Ok p) = Ok (judgement p)
 judged (Err t) = Err t
 
+-- the five numbers that a refused file tells, and none where it is accepted
+abbrev pub tells : Result Plan Told → List ℕ
+tells (Ok p) = []
+tells (Err t) = five t
+
 -- a worked example
 pub data Row : Type 0 where
   -- a file, and what it is decoded as
   decodes : List ℕ → Result Plan Told → Row
+  -- a file that is refused, and the five numbers that are told of it
+  refuses : List ℕ → List ℕ → Row
   -- processors and execution times C, and the bound of such tasks
   bounds : ℕ → List ℕ → ℕ → Row
   -- a file that holds a plan, and how that is judged
@@ -33,6 +40,7 @@ pub data Row : Type 0 where
 -- what a row claims
 abbrev pub Holds : Row → Type 0
 Holds (decodes file says) = decode file ≡ says
+Holds (refuses file numbers) = tells (decode file) ≡ numbers
 Holds (bounds processors costs is) = bound processors costs ≡ is
 Holds (judges file is) = judged (decode file) ≡ Ok is
 
@@ -57,7 +65,7 @@ worked = record {
 
 -- a file that is refused, at a field of no mode and no task
 abbrev refused : ℕ → ℕ → ℕ → Result Plan Told
-refused number field bit = Err (record { number = number; field = field; mode = none; task = none; bit = bit })
+refused number field bit = Err (record { number = number; field = field; mode = None; task = None; bit = bit })
 
 -- the table
 abbrev pub rows : List Row
@@ -67,6 +75,10 @@ rows =
     ∷ decodes [] (refused 1 1 0)
     ∷ decodes (front ++ 0x19 ∷ []) (refused 3 10 143)
     ∷ decodes (worked_file ++ 0x00 ∷ []) (refused 3 10 144)
+    ∷ refuses (0x24 ∷ []) (1 ∷ 3 ∷ 255 ∷ 255 ∷ 6 ∷ [])
+    ∷ refuses [] (1 ∷ 1 ∷ 255 ∷ 255 ∷ 0 ∷ [])
+    ∷ refuses (front ++ 0x19 ∷ []) (3 ∷ 10 ∷ 255 ∷ 255 ∷ 143 ∷ [])
+    ∷ refuses (worked_file ++ 0x00 ∷ []) (3 ∷ 10 ∷ 255 ∷ 255 ∷ 144 ∷ [])
     ∷ bounds 1 (3 ∷ 2 ∷ 2 ∷ []) 7
     ∷ bounds 2 (3 ∷ 2 ∷ 2 ∷ []) 5
     ∷ bounds 3 (3 ∷ 2 ∷ 2 ∷ []) 3

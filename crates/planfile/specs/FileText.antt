@@ -2,7 +2,7 @@
 use Rattle.std.specs.Prelude.{ℕ, List, ◌++◌, Ok, Err, Result}
 use Rattle.fields.specs.Faults.{Told}
 use Rattle.plan.specs.Plan.{Plan}
-use Rattle.report.specs.FaultText.{fault_text}
+use Rattle.fields.specs.FaultText.{fault_text}
 use Rattle.report.specs.PlanText.{plan_text}
 use Rattle.verdict_report.specs.VerdictText.{verdict_text}
 
