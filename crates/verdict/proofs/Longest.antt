@@ -1,8 +1,7 @@
 -- What the bound of a mode is, in other words than its formula. Assumes nothing.
-use Rattle.std.proofs.Common.{◌≡◌, ℕ, zero, suc, ◌+◌, ◌-◌, ◌*◌, ◌/◌, ◌<◌, ◌≤◌, max, List, [], ◌∷◌, length, get_or, fold, sym, ap, ◌∙◌, subst, inl, inr, le_of_suc-le-suc, not-suc-le-zero, mul_comm, add-mul, arith}
+use Rattle.std.proofs.Common.{◌≡◌, ℕ, zero, suc, ◌+◌, ◌-◌, ◌*◌, ◌/◌, ◌<◌, ◌≤◌, max, List, [], ◌∷◌, length, get_or, fold, ap, ◌∙◌, le_of_suc-le-suc, not-suc-le-zero, mul_comm, add-mul, arith}
 use native.Mathlib.Nat.{le-max_left, le-max_right, max-le}
 use Rattle.std.proofs.lemmas.Nat.{div-add-mod', mod_below, le-div, div_below}
-use Rattle.std.proofs.lemmas.Bool.{cases_lt}
 use Rattle.std.proofs.lemmas.Bool.Decides.{nat_tests}
 use Rattle.verdict.specs.Bound.{work, largest, bound, Longest}
 use Rattle.verdict.proofs.Works.{work_each, work_below}
@@ -48,29 +47,17 @@ module _ (m w c : ℕ) (some : 1 ≤ m) (fits : c ≤ w) where
       let rest = mod_below (w + (m - 1) * c) m some in
       (grind arith, grind arith)
 
-module _ (m : ℕ) (some : 1 ≤ m) (cs : List ℕ) where
-  abbrev w : ℕ
-  w = work cs (length cs)
-
-  alone : length cs ≤ m → bound m cs ≡ largest cs
-  alone few = grind (arith, nat_tests)
-
-  shared : m < length cs → bound m cs ≡ quotient m w (largest cs) some (largest_below_work cs)
-  shared many = grind (arith, nat_tests)
-
-  pub bound_longest : Longest m cs (bound m cs)
-  bound_longest = record {
-    each = λ k h. elim (cases_lt m (length cs)) [
-      | inl many ↦ omega (arith, most_each 0 cs k h, at_least m w (largest cs) some fits, shared many)
-      | inr few ↦ omega (arith, most_each 0 cs k h, alone few)
-    ];
-    all = elim (cases_lt m (length cs)) [
-      | inl many ↦ omega (arith, at_most m w (largest cs) some fits, shared many)
-      | inr few ↦ omega (arith, fits, alone few)
-    ];
-    alone = alone;
-    shared = λ many. subst (λ u. (m * u ≤ w + (m - 1) * largest cs) × (w + (m - 1) * largest cs < m * (u + 1))) (sym (shared many)) (rounded m w (largest cs) some fits);
-  }
-    where
-      fits : largest cs ≤ w
-      fits = largest_below_work cs
+pub bound_longest : (m : ℕ) → 1 ≤ m → (cs : List ℕ) → Longest m cs (bound m cs)
+bound_longest m some cs =
+    let w = work cs (length cs) in
+    let c = largest cs in
+    let fits : c ≤ w = largest_below_work cs in
+    let low = at_least m w c some fits in
+    let high = at_most m w c some fits in
+    let near = rounded m w c some fits in
+    record {
+      each = λ k within. let most = most_each 0 cs k within in grind (arith, nat_tests);
+      all = grind (arith, nat_tests);
+      alone = λ few. grind (arith, nat_tests);
+      shared = λ many. grind (arith, nat_tests);
+    }

@@ -1,5 +1,5 @@
 -- The first number of which something is told. Assumes nothing.
-use Rattle.std.proofs.Common.{◌≡◌, ℕ, zero, suc, ◌<◌, true, false, length, Some, None, Option, is_some, sym, refl, ap, ◌∙◌, inl, inr, arith}
+use Rattle.std.proofs.Common.{◌≡◌, ℕ, zero, suc, ◌<◌, true, false, length, Some, None, Option, is_some, sym, refl, ◌∙◌, inl, inr, arith}
 use Rattle.plan.specs.Plan.{Plan}
 use Rattle.std.proofs.lemmas.Bool.{cases_lt}
 use Rattle.std.proofs.lemmas.Bool.Decides.{nat_tests}
@@ -12,21 +12,17 @@ module _ {A : Type 0} (telling : ℕ → Option A) where
   pub told_at : (n i : ℕ) (x : A) → i < n → first_told i telling ≡ None → telling i ≡ Some x → first_told n telling ≡ Some x
   told_at zero i x within before here = absurd (omega arith)
   told_at (suc n) i x within before here = elim (cases_lt i n) [
-    | inl less ↦ ap (λ o. option_or o (telling n)) (told_at n i x less before here)
-    | inr last ↦ let same : i ≡ n = omega arith in ap (λ k. option_or (first_told k telling) (telling k)) (sym same) ∙ ap (λ o. option_or o (telling i)) before ∙ here
+    | inl less ↦ let earlier = told_at n i x less before here in grind arith
+    | inr last ↦ grind arith
   ]
 
   -- where nothing is told, nothing is told of any number
   pub told_none_of : (n : ℕ) → first_told n telling ≡ None → (k : ℕ) → k < n → telling k ≡ None
   told_none_of zero none k within = absurd (omega arith)
   told_none_of (suc n) none k within = elim (cases_lt k n) [
-    | inl less ↦ told_none_of n (neither (first_told n telling) (telling n) none).0 k less
-    | inr last ↦ let same : k ≡ n = omega arith in ap telling same ∙ (neither (first_told n telling) (telling n) none).1
+    | inl less ↦ let earlier = λ (e : first_told n telling ≡ None). told_none_of n e k less in grind arith
+    | inr last ↦ grind arith
   ]
-    where
-      neither : (x y : Option A) → option_or x y ≡ None → (x ≡ None) × (y ≡ None)
-      neither None y e = (refl, e)
-      neither (Some z) y e = (cc, cc)
 
   -- where something is told, it is told of a number, and nothing of those before it
   abbrev ToldFirst : ℕ → A → Type 0

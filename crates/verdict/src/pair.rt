@@ -21,13 +21,6 @@ pub(crate) struct PairOf<'a> {
     ghost pair: { Pair (plan_of draft.now.plan) old new },
 }
 
-// Whether a changeover that takes so long ends within the deadline.
-fn ends_in_time(bound: u32, deadline: u16) -> bool
-    ensures { result ≡ in_time (bound, deadline) }
-{
-    bound <= u32::from(deadline)
-}
-
 impl<'a> PairOf<'a> {
     // The pair with these numbers, where there is one.
     pub(crate) fn of(draft: &'a Draft, old: u8, new: u8) -> Option<PairOf<'a>>
@@ -89,4 +82,11 @@ impl<'a> PairOf<'a> {
             deadline: earliest.ticks,
         })
     }
+}
+
+// Whether a changeover that takes so long ends within the deadline.
+fn ends_in_time(bound: u32, deadline: u16) -> bool
+    ensures { result ≡ in_time (bound, deadline) }
+{
+    bound <= u32::from(deadline)
 }
