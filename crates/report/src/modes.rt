@@ -1,10 +1,10 @@
 // The text of a mode: a line, and the table of its tasks.
-ghost use Rattle.std.specs.Prelude.{◌≡◌, ◌-◌, ◌^◌, ℕ, min, List, [], ◌∷◌, take, Some};
+ghost use Rattle.std.specs.Prelude.{◌≡◌, ◌-◌, ◌^◌, ℕ, min, List, [], ◌∷◌, ◌++◌, decimal, take, Some};
 ghost use Rattle.std.specs.List.{remove, flat_map};
 ghost use Rattle.fields.specs.Line.{line};
 ghost use Rattle.std.specs.Fmt.{WritesOnOk, format_spec};
 ghost use Rattle.plan.specs.Held.{task_of, mode_of};
-ghost use Rattle.report.specs.PlanText.{table_head, task_row, mode_text};
+ghost use Rattle.report.specs.PlanText.{cell, table_head, task_row, mode_text};
 
 use fields::first;
 use plan::{MODES, Mode, Task};
@@ -51,7 +51,7 @@ impl ModeText<'_> {
         self.finish_row(f, &ENABLING)
     }
 
-    // The row of one task: its number, C, D, T, and its enabling deadlines.
+    // The row of one task: its number and times, and its enabling deadlines.
     fn row<W: fmt::Write>(
         &self,
         f: &mut fmt::Formatter<W>,
@@ -60,18 +60,26 @@ impl ModeText<'_> {
     ) -> fmt::Result
         ensures { WritesOnOk W.write_str_gives f.old result (task_row self.now.number number (task_of self.now.count task.now)) f.new }
     {
-        let Task {
-            cost,
-            deadline,
-            separation,
-            enabling,
-        } = task;
-        write!(
-            f,
-            "{number:>CELL$}{cost:>CELL$}{deadline:>CELL$}{separation:>CELL$}"
-        )?;
-        self.finish_row(f, enabling)
+        write_times(f, number, task)?;
+        self.finish_row(f, &task.enabling)
     }
+}
+
+// The first cells of the row of a task: its number, C, D and T.
+#[tactic(auto, using(crate::proofs::Cells::number_cell))]
+fn write_times<W: fmt::Write>(f: &mut fmt::Formatter<W>, number: usize, task: &Task) -> fmt::Result
+    ensures { WritesOnOk W.write_str_gives f.old result (cell (decimal number) ++ (cell (decimal task.now.cost) ++ (cell (decimal task.now.deadline) ++ cell (decimal task.now.separation)))) f.new }
+{
+    let Task {
+        cost,
+        deadline,
+        separation,
+        ..
+    } = task;
+    write!(
+        f,
+        "{number:>CELL$}{cost:>CELL$}{deadline:>CELL$}{separation:>CELL$}"
+    )
 }
 
 impl fmt::Display for ModeText<'_> {

@@ -8,6 +8,6 @@ use Rattle.report.proofs.modes.ModeText.row.Goals as goal
 pub returns : goal.returns
 unfolding others
 returns g c plain ok =
-    let numbers = (simp (c.laid_out.ensures, c.laid_out-2.ensures, c.laid_out-3.ensures, c.laid_out-4.ensures, number_cell) at c.in_ok-write.ensures.writes) plain refl in
-    let enabling = c.finish_row.ensures (λ n. cell (decimal n)) (λ n. ap Some (number_cell n)) numbers.plain ok in
+    let times = c.in_ok-write_times.ensures plain refl in
+    let enabling = c.finish_row.ensures (λ n. cell (decimal n)) (λ n. ap Some (number_cell n)) times.plain ok in
     grind (arith, common_steps)
