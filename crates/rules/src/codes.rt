@@ -4,7 +4,6 @@ ghost use Rattle.std.specs.Option.{option_map};
 ghost use Rattle.plan.specs.Held.{plan_of};
 ghost use Rattle.rules.specs.ByMode.{rule_codes, CodesOf};
 
-use fields::first;
 use plan::{MODES, Mode, Plan};
 use std::array;
 
@@ -20,7 +19,6 @@ pub(crate) fn rule_codes(plan: &Plan) -> [Option<u8>; MODES]
     ensures value { result ≡ rule_codes (plan_of plan.now) }
     ensures law { CodesOf (plan_of plan.now) result }
 {
-    // Not `plan.modes()`, of which it is not known here that it has at most `MODES`.
-    let modes = first(&plan.modes, usize::from(plan.count));
+    let modes = plan.modes();
     array::from_fn(|mode| rule_code(modes, mode))
 }
