@@ -2,7 +2,7 @@
 ghost use Rattle.std.specs.Prelude.{◌≡◌, Option, ℕ, ◌≤◌, IfOk, OnErr};
 ghost use Rattle.fields.specs.Bits.{bits};
 ghost use Rattle.fields.specs.Layout.{field as in_field};
-ghost use Rattle.fields.specs.Readers.{answered, located};
+ghost use Rattle.fields.specs.Readers.{Answers, located};
 
 use crate::bits::BitReader;
 use crate::fault::{Fault, Field, FieldFault, Owner, Refusal};
@@ -33,10 +33,9 @@ impl BitReader<'_> {
         least: u16,
         most: u16,
     ) -> Result<u16, Fault>
-        ensures value { answered result self.new.at ≡ (in_field field owner.mode owner.task least most).read (bits self.old.bytes.now) self.old.at }
+        ensures reads { Answers (in_field field owner.mode owner.task least most).read self.old result self.new }
         ensures kept { OnErr result (self.new.at ≡ self.old.at) }
         ensures within { IfOk result (λ n. (least ≤ n) × (n ≤ most)) }
-        ensures bytes { self.new.bytes.now ≡ self.old.bytes.now }
     {
         self.field(field, least, most)
             .map_err(|fault| fault.of(owner))

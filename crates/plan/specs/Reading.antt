@@ -1,17 +1,11 @@
 -- What the readers of a plan's parts answer, beside the layouts of these parts. Assumes nothing.
-use Rattle.std.specs.Prelude.{◌≡◌, ℕ, List, Result}
+use Rattle.std.specs.Prelude.{ℕ, List, Result}
 use Rattle.std.specs.Borrow.{MutBor}
 use Rattle.fields.specs.declared.bits.BitReader.{BitReader}
 use Rattle.fields.specs.declared.fault.Fault.{Fault}
-use Rattle.fields.specs.Bits.{bits}
 use Rattle.fields.specs.Layout.{Layout, Reading, read_each}
-use Rattle.fields.specs.Readers.{answered, converted}
+use Rattle.fields.specs.Readers.{Answers, converted}
 use Rattle.plan.specs.Held.{padded}
-
--- a reader answers what a reading of its bytes gives at its bit, and then stands after that, over the same bytes
-pub record Answers {A : Type 0} (reading : List ℕ → ℕ → Reading A) (before : BitReader) (answer : Result A Fault) (after : BitReader) : Type 0 where
-  pub value : answered answer after.at ≡ reading (bits before.bytes.now) before.at
-  pub bytes : after.bytes.now ≡ before.bytes.now
 
 -- it answers as a layout reads, with the value in another form
 abbrev pub ReadsAs : {A B : Type 0} → (A → B) → Layout A → BitReader → Result B Fault → BitReader → Type 0

@@ -7,7 +7,8 @@ ghost use Rattle.fields.specs.declared.fault.Field.TheVariants.{Start};
 ghost use Rattle.plan.specs.File.{enabling_layout, task_layout, mode_layout, plan_layout};
 ghost use Rattle.plan.specs.Held.{padded, blank_task, blank_mode, task_table, mode_table, plan_table};
 ghost use Rattle.plan.specs.Sizes.{most_modes, most_tasks};
-ghost use Rattle.plan.specs.Reading.{Answers, ReadsAs, ReadsTable};
+ghost use Rattle.fields.specs.Readers.{Answers};
+ghost use Rattle.plan.specs.Reading.{ReadsAs, ReadsTable};
 
 use crate::modes::Modes;
 use crate::tables::{MAX_COST, MAX_RULE, MAX_TIME, MODES, Mode, PROCESSORS, Plan, TASKS, Task};

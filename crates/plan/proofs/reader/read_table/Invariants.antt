@@ -3,7 +3,7 @@ use Rattle.std.specs.Borrow.{MutBor}
 use Rattle.fields.specs.Bits.{bits}
 use Rattle.fields.specs.Layout.{Reading}
 use Rattle.fields.specs.declared.fault.Fault.{Fault}
-use Rattle.plan.specs.Reading.{Answers}
+use Rattle.fields.specs.Readers.{Answers}
 use Rattle.plan.proofs.Loops.{Sofar}
 use Rattle.plan.proofs.reader.read_table.Given as goal
 
