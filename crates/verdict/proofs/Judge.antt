@@ -9,7 +9,6 @@ use Rattle.verdict.specs.Enabling.{earliest}
 use Rattle.verdict.specs.Sound.{Passes, Pair, EveryPairPasses, FirstFailing, Judged}
 use Rattle.verdict.specs.Verdict.{Told, passes, pair_told, failing, failing_from, failing_before, verdict}
 use Rattle.verdict.proofs.Earliest.{Least, earliest_least}
-use Rattle.verdict.proofs.Limits.{within}
 use Rattle.verdict.proofs.Told.{told_none_of, told_some_of, pass_of_none, failure_of_some}
 
 module _ (p : Plan) (limits : Within p) where
@@ -79,4 +78,4 @@ module _ (p : Plan) (limits : Within p) where
 
 -- the verdict on a draft
 pub judged_as : (d : Draft) (found : Option Told) → found ≡ verdict (plan_of d.plan) → Judged (plan_of d.plan) found
-judged_as d found is = subst (λ o. Judged (plan_of d.plan) o) (sym is) (judged (plan_of d.plan) (within d))
+judged_as d found is = subst (λ o. Judged (plan_of d.plan) o) (sym is) (judged (plan_of d.plan) d.within)

@@ -1,4 +1,3 @@
-pub mod Limits
 pub mod Works
 pub mod Longest
 pub mod Earliest

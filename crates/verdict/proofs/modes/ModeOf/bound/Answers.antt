@@ -5,7 +5,6 @@ use Rattle.std.proofs.lemmas.List.{length-map}
 use Rattle.plan.specs.Held.{plan_of}
 use Rattle.plan.specs.Plan.{mode_at}
 use Rattle.verdict.specs.Bound.{costs, bound_of, LongestOf}
-use Rattle.verdict.proofs.Limits.{within}
 use Rattle.verdict.proofs.Longest.{bound_longest, work_below_largest}
 use Rattle.verdict.proofs.modes.ModeOf.bound.Goals as goal
 
@@ -15,7 +14,7 @@ longest_changeover-requires-clause-few c =
     let m = mode_at (plan_of mode.draft.now.plan) mode.number in
     let below = work_below_largest (costs m) in
     let size = length-map m.tasks (λ t. t.cost) in
-    let few = ((within mode.draft.now).5 mode.number mode.there).2 in
+    let few = (mode.draft.now.within.5 mode.number mode.there).2 in
     grind arith
 
 pub returns-clause-law : goal.returns-clause-law
@@ -23,4 +22,4 @@ returns-clause-law c =
     let mode = c.args.self.now in
     let p = plan_of mode.draft.now.plan in
     let value : c.longest_changeover.result ≡ bound_of p mode.number = grind (arith, common_steps) in
-    subst (LongestOf p mode.number) (sym value) (bound_longest p.processors (within mode.draft.now).0 (costs (mode_at p mode.number)))
+    subst (LongestOf p mode.number) (sym value) (bound_longest p.processors mode.draft.now.within.0 (costs (mode_at p mode.number)))
