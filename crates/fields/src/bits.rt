@@ -30,7 +30,7 @@ impl<'a> BitReader<'a> {
         }
     }
 
-    // Whether the input has so many bits.
+    // Whether the input has so many bits. By `as`, since `From` does not go from `u32` to `usize`.
     fn has(&self, count: u32) -> bool
         ensures { result ≡ nat_le count (8 * length self.now.bytes.now) }
     {
@@ -77,6 +77,7 @@ impl<'a> BitReader<'a> {
             return None;
         }
         let mut value: u16 = 0;
+        // By the numbers of the bits, which are no elements of a slice.
         for at in first..end {
             value = value * 2 + u16::from(self.bit(at));
         }

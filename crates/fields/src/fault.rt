@@ -56,6 +56,7 @@ pub struct Fault {
     pub bit: u32,
 }
 
+// A refusal and a field each have a `number` of their own: no code is generic in what is told by one.
 impl Refusal {
     // The number by which it is told.
     pub fn number(self) -> u8

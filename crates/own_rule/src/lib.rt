@@ -19,6 +19,7 @@ impl Order<Job> for LatestFirst {
     ghost strict = { λ _. by_group_strict _ (λ job. job.release) (λ _. file_rank) descending_strict (λ _. file_rank_strict) };
 
     fn goes_before(&self, a: &Job, b: &Job) -> bool {
+        // By hand, since it goes on with another rule's order.
         a.release > b.release || (a.release == b.release && FileRank.goes_before(a, b))
     }
 }

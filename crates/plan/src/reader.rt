@@ -14,7 +14,7 @@ use crate::modes::Modes;
 use crate::tables::{MAX_COST, MAX_RULE, MAX_TIME, MODES, Mode, PROCESSORS, Plan, TASKS, Task};
 use fields::{BitReader, Fault, Field, Owner};
 
-// The greatest numbers in the fields that hold a count less one.
+// The greatest numbers in the fields that hold a count less one. By `as`, since `From` is not for constants.
 const LAST_PROCESSOR: u16 = PROCESSORS as u16 - 1;
 
 const LAST_MODE: u16 = MODES as u16 - 1;
@@ -119,6 +119,7 @@ fn read_mode(bits: &mut BitReader<'_>, modes: Modes, mode: u8) -> Result<Mode, F
         mode: Some(mode),
         task: None,
     };
+    // Numbers within these limits fit 8 bits: `as` is proved to lose nothing, where `TryFrom` would need an `unwrap` each time.
     let rule = bits.number(Field::Rule, owner, 0, MAX_RULE)?;
     let last = bits.number(Field::Tasks, owner, 0, LAST_TASK)?;
     let count = last as u8 + 1;

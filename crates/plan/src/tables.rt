@@ -1,5 +1,5 @@
 // The tables of a plan, as a board holds them: fixed arrays with counts.
-// Places past a count hold zeros, so that equal plans are equal tables.
+// Places past a count hold zeros, so that equal plans are equal tables. A board has no heap, so these are no `Vec`s.
 ghost use Rattle.std.specs.Prelude.{◌≡◌, min, length, take};
 ghost use Rattle.plan.specs.Held.{plan_table};
 ghost use Rattle.plan.specs.Builtin.{least};
@@ -40,7 +40,8 @@ impl Task {
     };
 }
 
-// A mode: the code of its priority rule, and its first `count` tasks.
+// A mode: the code of its priority rule, and its first `count` tasks. The code is a number and no enum, since whoever writes a rule
+// gives it a code.
 #[derive(Clone, Copy, Debug, PartialEq, Eq)]
 pub struct Mode {
     pub rule: u8,

@@ -49,6 +49,7 @@ impl<A: Rule, B: Rule, C: Rule> Order<Job> for ByMode<A, B, C> {
     ghost strict = { λ order. by_mode_strict _ _ _ order.codes (A.Order.strict order.first) (B.Order.strict order.second) (C.Order.strict order.third) };
 
     fn goes_before(&self, a: &Job, b: &Job) -> bool {
+        // By hand, since it goes on with the order of a seat.
         if a.mode != b.mode {
             return a.mode < b.mode;
         }

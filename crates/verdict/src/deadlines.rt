@@ -45,7 +45,7 @@ impl PairOf<'_> {
         task.enabling[usize::from(self.old)]
     }
 
-    // The enabling deadlines of the tasks of the new mode, in the first places.
+    // The enabling deadlines of the tasks of the new mode, in the first places. A board has no heap, so this is no `Vec`.
     fn deadlines(&self) -> [Deadline; TASKS]
         ensures { let p = plan_of self.now.draft.now.plan in take (tasks_in p self.now.new) result ≡ deadlines self.now.old (mode_at p self.now.new).tasks }
     {
@@ -53,7 +53,7 @@ impl PairOf<'_> {
         array::from_fn(|number| match tasks.get(number) {
             Some(task) => Deadline {
                 ticks: self.deadline_of(task),
-                task: u8::try_from(number).unwrap(),
+                task: number as u8,
             },
             None => Deadline::BLANK,
         })

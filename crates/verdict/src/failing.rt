@@ -16,6 +16,7 @@ pub(crate) fn first_failing(draft: &Draft) -> Option<Unsound>
 {
     let modes = draft.plan().count;
     let mut failing = None;
+    // A rule of the project: a search over pairs is loops over both modes, left by a label.
     'pairs: for old in 0..modes {
         for new in 0..modes {
             // No board goes from a mode to itself.

@@ -29,6 +29,7 @@ impl fmt::Display for SoundText<'_> {
 fn write_modes<W: fmt::Write>(f: &mut fmt::Formatter<W>, plan: &SoundPlan) -> fmt::Result
     ensures { WritesOnOk W.write_str_gives f.old result (modes_text (plan_of plan.now.draft.plan)) f.new }
 {
+    // By number, as a sound plan is asked.
     for mode in 0..plan.modes() {
         let bound = plan.bound(mode).unwrap();
         write_mode(f, mode, bound)?;
@@ -42,6 +43,7 @@ fn write_modes<W: fmt::Write>(f: &mut fmt::Formatter<W>, plan: &SoundPlan) -> fm
 fn write_pairs<W: fmt::Write>(f: &mut fmt::Formatter<W>, plan: &SoundPlan, old: u8) -> fmt::Result
     ensures { WritesOnOk W.write_str_gives f.old result (pairs_text (plan_of plan.now.draft.plan) old) f.new }
 {
+    // By number, as a sound plan is asked.
     for new in 0..plan.modes() {
         if let Some((bound, deadline)) = plan.changeover(old, new) {
             write_pair(f, new, bound, u32::from(deadline))?;
