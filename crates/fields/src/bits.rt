@@ -77,7 +77,7 @@ impl<'a> BitReader<'a> {
             return None;
         }
         let mut value: u16 = 0;
-        // By the numbers of the bits, which are no elements of a slice.
+        // Not a `fold`: that the value fits would need this loop's invariant as a lemma of its own.
         for at in first..end {
             value = value * 2 + u16::from(self.bit(at));
         }

@@ -32,7 +32,8 @@ pub enum Field {
     Padding = 10,
 }
 
-// The mode and the task that a field belongs to, where it belongs to one.
+// The mode and the task that a field belongs to, where it belongs to one. Two `Option`s and no enum of plan, mode and task: a reader
+// takes any owner that can be told.
 #[derive(Clone, Copy, Debug, PartialEq, Eq)]
 pub struct Owner {
     pub mode: Option<u8>,
@@ -56,7 +57,7 @@ pub struct Fault {
     pub bit: u32,
 }
 
-// A refusal and a field each have a `number` of their own: no code is generic in what is told by one.
+// A refusal and a field each have a `number` of their own, and no trait or `From`: no code is generic in what is told by one.
 impl Refusal {
     // The number by which it is told.
     pub fn number(self) -> u8
@@ -98,7 +99,7 @@ impl Owner {
 }
 
 impl FieldFault {
-    // The fault, now that the owner of the field is known.
+    // The fault, now that the owner of the field is known, which a `From` could not take.
     pub(crate) fn of(self, owner: Owner) -> Fault
         ensures { result ≡ record { refusal = self.refusal; field = self.field; owner = owner; bit = self.bit } }
     {

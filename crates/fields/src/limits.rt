@@ -25,7 +25,8 @@ impl BitReader<'_> {
         Ok(value)
     }
 
-    // The number in a field of an owner. A refusal leaves the reader where it was.
+    // The number in a field of an owner. A refusal leaves the reader where it was. The limits are two numbers and no `RangeInclusive`,
+    // since a range that was iterated over has lost its last number.
     pub fn number(
         &mut self,
         field: Field,

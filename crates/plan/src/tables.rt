@@ -21,7 +21,8 @@ pub const MAX_TIME: u16 = 65535;
 
 pub const MAX_RULE: u16 = 2;
 
-// A task, with its times in ticks. `enabling` has the enabling deadline for each old mode, and 0 for the task's own.
+// A task, with its times in ticks. `enabling` has the enabling deadline for each old mode, and 0 for the task's own, as the
+// definitions say: with an `Option` for each, a board would hold twice as much.
 #[derive(Clone, Copy, Debug, PartialEq, Eq)]
 pub struct Task {
     pub cost: u16,
@@ -31,7 +32,7 @@ pub struct Task {
 }
 
 impl Task {
-    // What unused places hold.
+    // What unused places hold, as a constant, which cannot call `Default`.
     pub const BLANK: Task = Task {
         cost: 0,
         deadline: 0,
@@ -41,7 +42,7 @@ impl Task {
 }
 
 // A mode: the code of its priority rule, and its first `count` tasks. The code is a number and no enum, since whoever writes a rule
-// gives it a code.
+// gives it a code: tables hold any, and by-mode goes by them.
 #[derive(Clone, Copy, Debug, PartialEq, Eq)]
 pub struct Mode {
     pub rule: u8,
@@ -57,7 +58,8 @@ impl Mode {
         tasks: [Task::BLANK; TASKS],
     };
 
-    // The tasks that it counts.
+    // The tasks that it counts. (`Plan::modes` is the same of its own table. One type for both would hide the fields by which programs
+    // make plans.)
     pub fn tasks(&self) -> &[Task]
         ensures tasks { result.now ≡ take self.now.count self.now.tasks }
         ensures count { length result.now ≡ min self.now.count most_tasks }

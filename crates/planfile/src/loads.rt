@@ -17,6 +17,7 @@ pub fn plan_bytes(rt: &HostRuntime, path: &str) -> io::Result<Vec<u8>>
         Ok(file) => {
             file.take(DECIDING_BYTES as u64).read_to_end(&mut bytes)?;
         }
+        // Not `?`, since a missing file is no error.
         Err(error) if error.kind() == ErrorKind::NotFound => {}
         Err(error) => return Err(error),
     }

@@ -7,6 +7,7 @@ use fields::Fault;
 use std::alloc::{AllocError, Global};
 
 // Why a plan file is refused, and where.
+#[tactic(auto, using(crate::proofs::FaultLines::fault_lines))]
 pub fn fault_text(alloc: Global, fault: &Fault) -> Result<String, AllocError>
     ensures { IfOk result (λ s. string_bytes s ≡ fault_text (numbers fault.now)) }
 {

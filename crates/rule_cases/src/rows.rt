@@ -21,7 +21,7 @@ pub(crate) fn job(mode: u8, task: u8, release: u32, deadline: u16) -> Job {
     }
 }
 
-// The first of two jobs goes before the second.
+// Three constructors, so that a table reads as sentences: the first of two jobs goes before the second.
 pub(crate) fn ahead(a: Job, b: Job) -> Row {
     Row {
         a,

@@ -9,7 +9,8 @@ use crate::jobs::Job;
 use crate::rule::Rule;
 use ordering::Order;
 
-// Whether the keys of a job are smaller than those of another.
+// Whether the keys of a job are smaller than those of another. The three rules have no more in common: each names an order, the proof
+// that it is one, and a code.
 fn goes_by_keys<K: PartialOrd + Drop, F: Fn(&Job) -> K>(keys: F, a: &Job, b: &Job) -> bool
     requires { F.IsAlwaysCallable keys }
     ensures { (k : K) × (l : K) × FnReturnsAt F.Fn keys a.now k × FnReturnsAt F.Fn keys b.now l × (result ≡ partial_lt K.partial_cmp k l) }

@@ -5,7 +5,7 @@ ghost use Rattle.verdict.specs.Answers.{refusal, adopted};
 ghost use Rattle.verdict.specs.Sound.{Judged};
 ghost use Rattle.verdict.specs.Verdict.{verdict};
 
-use crate::failing::first_failing;
+use crate::pairs::check_pairs;
 use crate::refusals::Unsound;
 use crate::sound::SoundPlan;
 use plan::Draft;
@@ -17,9 +17,7 @@ pub fn adopt(draft: Draft, place: &mut SoundPlan) -> Result<(), Unsound>
     ensures place { place.new.draft.plan ≡ adopted (verdict (plan_of draft.plan)) draft.plan place.old.draft.plan }
     ensures law { Judged (plan_of draft.plan) (refusal result) }
 {
-    if let Some(unsound) = first_failing(&draft) {
-        return Err(unsound);
-    }
+    check_pairs(&draft)?;
     *place = SoundPlan::new(draft);
     Ok(())
 }

@@ -10,7 +10,8 @@ use crate::modes::ModeOf;
 impl ModeOf<'_> {
     // The work of all tasks. An execution time has 16 bits, so the work of a mode fits.
     fn work(&self) -> u32
-        ensures { let cs = costs (mode_at (plan_of self.now.draft.now.plan) self.now.number) in result ≡ work cs (length cs) }
+        ensures value { let cs = costs (mode_at (plan_of self.now.draft.now.plan) self.now.number) in result ≡ work cs (length cs) }
+        ensures bound { result ≤ 65535 * most_tasks }
     {
         self.tasks().iter().map(|task| u32::from(task.cost)).sum()
     }
@@ -40,7 +41,7 @@ impl ModeOf<'_> {
 // their work divided by the processors, and then its own time, come to no more than the quotient.
 fn longest_changeover(processors: u8, tasks: usize, total: u32, most: u16) -> u32
     requires some { 1 ≤ processors }
-    requires few { total ≤ most_tasks * most }
+    requires few { total ≤ 65535 * most_tasks }
     ensures { result ≡ bound_formula processors tasks total most }
 {
     if tasks <= usize::from(processors) {

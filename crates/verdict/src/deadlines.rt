@@ -12,7 +12,7 @@ use plan::{TASKS, Task};
 use std::array;
 
 // An enabling deadline, with the task that it is for.
-#[derive(Clone, Copy, Debug, PartialEq, Eq)]
+#[derive(Clone, Copy, Debug, PartialEq, Eq, PartialOrd, Ord)]
 pub(crate) struct Deadline {
     pub(crate) ticks: u16,
     pub(crate) task: u8,
@@ -33,7 +33,7 @@ impl Order<Deadline> for ByDeadline {
     ghost strict = { λ _. deadlines_strict };
 
     fn goes_before(&self, a: &Deadline, b: &Deadline) -> bool {
-        (a.ticks, a.task) < (b.ticks, b.task)
+        a < b
     }
 }
 
@@ -45,7 +45,7 @@ impl PairOf<'_> {
         task.enabling[usize::from(self.old)]
     }
 
-    // The enabling deadlines of the tasks of the new mode, in the first places. A board has no heap, so this is no `Vec`.
+    // The enabling deadlines of the tasks of the new mode, in the first places. `first_in_order` takes a slice, and a board has no heap.
     fn deadlines(&self) -> [Deadline; TASKS]
         ensures { let p = plan_of self.now.draft.now.plan in take (tasks_in p self.now.new) result ≡ deadlines self.now.old (mode_at p self.now.new).tasks }
     {
@@ -64,10 +64,8 @@ impl PairOf<'_> {
         ensures { result ≡ earliest (plan_of self.now.draft.now.plan) self.now.old self.now.new }
     {
         let deadlines = self.deadlines();
-        match first_in_order(&ByDeadline, &deadlines[..self.tasks().len()]) {
-            Some(place) => deadlines[place],
-            // Every mode has a task.
-            None => unreachable!(),
-        }
+        // Every mode has a task.
+        let place = first_in_order(&ByDeadline, &deadlines[..self.tasks().len()]).unwrap();
+        deadlines[place]
     }
 }

@@ -4,9 +4,9 @@
 mod adoption;
 mod bounds;
 mod deadlines;
-mod failing;
 mod modes;
 mod pair;
+mod pairs;
 mod refusals;
 mod sound;
 mod ticks;

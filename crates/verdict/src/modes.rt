@@ -19,6 +19,7 @@ impl<'a> ModeOf<'a> {
         ensures some { IfSome result (λ mode. (mode.draft.now ≡ draft.now) × (mode.number ≡ number)) }
         ensures none { IfNone result (length (plan_of draft.now.plan).modes ≤ number) }
     {
+        // An `if`, since the ghost field rests on its test.
         if number < draft.plan().count {
             Some(ModeOf { draft, number })
         } else {

@@ -1,8 +1,7 @@
 // The pairs of modes of a draft, and how they are judged.
 ghost use Rattle.std.specs.Prelude.{◌≡◌, IfSome, is_some};
-ghost use Rattle.std.specs.Option.{option_map};
 ghost use Rattle.plan.specs.Held.{plan_of};
-ghost use Rattle.verdict.specs.Answers.{told, is_pair};
+ghost use Rattle.verdict.specs.Answers.{refusal, is_pair};
 ghost use Rattle.verdict.specs.Bound.{bound_of};
 ghost use Rattle.verdict.specs.Sound.{Pair};
 ghost use Rattle.verdict.specs.Tables.{HoldTasks};
@@ -27,6 +26,7 @@ impl<'a> PairOf<'a> {
         ensures some { is_some result ≡ is_pair (plan_of draft.now.plan) old new }
         ensures same { IfSome result (λ pair. (pair.draft.now ≡ draft.now) × (pair.old ≡ old) × (pair.new ≡ new)) }
     {
+        // An `if`, since the ghost field rests on its test.
         let modes = draft.plan().count;
         if old < modes && new < modes && old != new {
             Some(PairOf { draft, old, new })
@@ -57,24 +57,24 @@ impl<'a> PairOf<'a> {
         entered.tasks()
     }
 
-    // The longest changeover, and the least enabling deadline.
+    // The longest changeover, and the least enabling deadline: a rule of the project has the judgement as two numbers.
     pub(crate) fn judgement(&self) -> (u32, u16)
         ensures { result ≡ judgement (plan_of self.now.draft.now.plan) self.now.old self.now.new }
     {
         (self.bound(), self.earliest_deadline().ticks)
     }
 
-    // What is told of the pair, where it fails.
+    // Whether the pair passes, or what is told of it.
     #[tactic(auto, unfolding(crate::specs::Verdict::failing))]
-    pub(crate) fn failing(&self) -> Option<Unsound>
-        ensures { option_map told result ≡ failing (plan_of self.now.draft.now.plan) self.now.old self.now.new }
+    pub(crate) fn check(&self) -> Result<(), Unsound>
+        ensures { refusal result ≡ failing (plan_of self.now.draft.now.plan) self.now.old self.now.new }
     {
         let bound = self.bound();
         let earliest = self.earliest_deadline();
         if ends_in_time(bound, earliest.ticks) {
-            return None;
+            return Ok(());
         }
-        Some(Unsound {
+        Err(Unsound {
             old: self.old,
             new: self.new,
             task: earliest.task,

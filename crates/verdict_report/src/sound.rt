@@ -2,7 +2,7 @@
 ghost use Rattle.std.specs.Prelude.{Some};
 ghost use Rattle.std.specs.Fmt.{WritesOnOk};
 ghost use Rattle.plan.specs.Held.{plan_of};
-ghost use Rattle.verdict_report.specs.VerdictText.{changeover_text, modes_text, pairs_text, sound_text};
+ghost use Rattle.verdict_report.specs.VerdictText.{modes_text, pairs_text, sound_text};
 
 use crate::lines::{write_mode, write_pair};
 use std::fmt;

@@ -1,11 +1,15 @@
 -- The law of the verdict holds of what was found.
-use Rattle.std.proofs.Common.{Some, None}
-use Rattle.verdict.specs.Answers.{told}
+use Rattle.std.proofs.Common.{rules, ◌≡◌, None}
+use Rattle.plan.specs.Held.{plan_of}
+use Rattle.verdict.specs.Answers.{refusal}
+use Rattle.verdict.specs.Verdict.{verdict}
 use Rattle.verdict.proofs.Judge.{judged_as}
 use Rattle.verdict.proofs.adoption.adopt.Goals as goal
 
-pub returns-in-Some-clause-law : goal.returns-in-Some-clause-law
-returns-in-Some-clause-law c = judged_as c.args.draft (Some (told c.in-Some.unsound)) c.in-Some.ensures
+pub returns-in_err-check_pairs-clause-law : goal.returns-in_err-check_pairs-clause-law
+returns-in_err-check_pairs-clause-law c =
+    let told : refusal c.from_residual.result ≡ verdict (plan_of c.args.draft.plan) = search rules in
+    judged_as c.args.draft _ told
 
 pub new-requires : goal.new-requires
-new-requires c = judged_as c.args.draft None c.in_default.ensures
+new-requires c = judged_as c.args.draft None c.in_ok-check_pairs.ensures

@@ -1,21 +1,11 @@
--- The work is at most the largest time for each task, and the formula is the bound.
+-- The formula is the bound.
 use Rattle.std.proofs.Common.{◌≡◌, sym, subst, arith}
 use Rattle.std.proofs.lemmas.Grind.{common_steps}
-use Rattle.std.proofs.lemmas.List.{length-map}
 use Rattle.plan.specs.Held.{plan_of}
 use Rattle.plan.specs.Plan.{mode_at}
 use Rattle.verdict.specs.Bound.{costs, bound_of, LongestOf}
-use Rattle.verdict.proofs.Longest.{bound_longest, work_below_largest}
+use Rattle.verdict.proofs.Longest.{bound_longest}
 use Rattle.verdict.proofs.modes.ModeOf.bound.Goals as goal
-
-pub longest_changeover-requires-clause-few : goal.longest_changeover-requires-clause-few
-longest_changeover-requires-clause-few c =
-    let mode = c.args.self.now in
-    let m = mode_at (plan_of mode.draft.now.plan) mode.number in
-    let below = work_below_largest (costs m) in
-    let size = length-map m.tasks (λ t. t.cost) in
-    let few = (mode.draft.now.within.5 mode.number mode.there).2 in
-    grind arith
 
 pub returns-clause-law : goal.returns-clause-law
 returns-clause-law c =
