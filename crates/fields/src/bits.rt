@@ -48,7 +48,7 @@ impl<'a> BitReader<'a> {
         }
     }
 
-    // The bit at `at`.
+    // The bit at `at`, in the byte whose number is found by `as`, as in `has`.
     fn bit(&self, at: u32) -> u8
         requires { at < 8 * length self.now.bytes.now }
         ensures { result ≡ slice_index (bits self.now.bytes.now) at }

@@ -1,4 +1,4 @@
-// Numbers in fields, with their limits: a fault gains first its field, and then its owner.
+// Numbers in fields, with their limits: a fault is made with its field, and then gains its owner.
 ghost use Rattle.std.specs.Prelude.{◌≡◌, Option, ℕ, ◌≤◌, IfOk, OnErr};
 ghost use Rattle.fields.specs.Bits.{bits};
 ghost use Rattle.fields.specs.Layout.{field as in_field};

@@ -15,6 +15,7 @@ fn tables_in(bytes: &[u8]) -> Result<Plan, Fault>
 {
     let mut reader = BitReader::new(bytes);
     let plan = read_plan(&mut reader)?;
+    // One of two results, for which an `if let` is no plainer.
     match reader.stray() {
         Some(bit) => Err(Fault {
             refusal: Refusal::Trailing,

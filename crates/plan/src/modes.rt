@@ -11,7 +11,7 @@ pub(crate) struct Modes {
 }
 
 impl Modes {
-    // The modes from number 0 to this one.
+    // The modes from number 0 to this one, of which `as` is proved to lose nothing.
     pub(crate) fn up_to(last: u16) -> Modes
         requires { last < most_modes }
         ensures { result.count ≡ last + 1 }

@@ -14,7 +14,7 @@ use crate::modes::Modes;
 use crate::tables::{MAX_COST, MAX_RULE, MAX_TIME, MODES, Mode, PROCESSORS, Plan, TASKS, Task};
 use fields::{BitReader, Fault, Field, Owner};
 
-// The greatest numbers in the fields that hold a count less one. By `as`, since `From` is not for constants.
+// The greatest numbers in the fields that hold a count less one. By `as`, since there is no `From` from `usize` to `u16`.
 const LAST_PROCESSOR: u16 = PROCESSORS as u16 - 1;
 
 const LAST_MODE: u16 = MODES as u16 - 1;
@@ -40,7 +40,8 @@ fn read_table<T: Copy, F: Fn(&mut BitReader<'_>, u8) -> Result<T, Fault>, const 
     Ok(table)
 }
 
-// The enabling deadline of a task for one old mode: the file has none for the task's own.
+// The enabling deadline of a task for one old mode: the file has none for the task's own. This reader and those below take the numbers
+// that their layouts take, so that the two read alike.
 #[tactic(auto, unfolding(crate::specs::File::enabling_layout, fields::specs::Layout::whole))]
 fn read_enabling_deadline(
     bits: &mut BitReader<'_>,

@@ -14,7 +14,8 @@ pub const MODES: usize = 8;
 
 pub const TASKS: usize = 16;
 
-// The greatest execution time, the greatest of the other times, and the greatest code of a rule.
+// The greatest execution time, the greatest of the other times, and the greatest code of a rule
+// that a file can hold.
 pub const MAX_COST: u16 = 4095;
 
 pub const MAX_TIME: u16 = 65535;
@@ -22,7 +23,7 @@ pub const MAX_TIME: u16 = 65535;
 pub const MAX_RULE: u16 = 2;
 
 // A task, with its times in ticks. `enabling` has the enabling deadline for each old mode, and 0 for the task's own, as the
-// definitions say: with an `Option` for each, a board would hold twice as much.
+// definitions say: with an `Option` for each they would take twice the memory, of which a board has little.
 #[derive(Clone, Copy, Debug, PartialEq, Eq)]
 pub struct Task {
     pub cost: u16,
@@ -51,7 +52,7 @@ pub struct Mode {
 }
 
 impl Mode {
-    // What unused places hold.
+    // What unused places hold, as a constant, which cannot call `Default`.
     pub const BLANK: Mode = Mode {
         rule: 0,
         count: 0,

@@ -9,7 +9,7 @@ use report::{draft_text, fault_text};
 use std::alloc::{AllocError, Global};
 use verdict_report::verdict_text;
 
-// What a draft says, and the verdict on it.
+// What a draft says, and the verdict on it, which uses the draft up: so no `Display`, which only looks.
 fn judged_text(alloc: Global, draft: Draft) -> Result<String, AllocError>
     ensures { IfOk result (λ s. string_bytes s ≡ judged_text (plan_of draft.plan)) }
 {
@@ -18,7 +18,7 @@ fn judged_text(alloc: Global, draft: Draft) -> Result<String, AllocError>
     format!(in alloc; "{plan}{verdict}")
 }
 
-// What the file says and the verdict on it, or why it is refused.
+// What the file says and the verdict on it, or why it is refused: one text or another, each handed out whole.
 pub fn file_text(alloc: Global, bytes: &[u8]) -> Result<String, AllocError>
     ensures { IfOk result (λ s. string_bytes s ≡ file_text (decode bytes.now)) }
 {

@@ -15,6 +15,7 @@ pub fn plan_bytes(rt: &HostRuntime, path: &str) -> io::Result<Vec<u8>>
     let mut bytes = Vec::new(rt.alloc());
     match fs::open(rt, path) {
         Ok(file) => {
+            // By `as`, since there is no `From` from `usize` to `u64`.
             file.take(DECIDING_BYTES as u64).read_to_end(&mut bytes)?;
         }
         // Not `?`, since a missing file is no error.

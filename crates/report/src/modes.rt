@@ -35,6 +35,7 @@ impl ModeText<'_> {
         ensures { (text : T → List ℕ) → ((x : T) → T.styled_output x (format_spec 32 3 0 6 (2 ^ 64 - 1)) ≡ Some (text x))
             → WritesOnOk W.write_str_gives f.old result (line (flat_map text (remove (take self.now.count cells.now) self.now.number) ∷ [])) f.new }
     {
+        // A row of cells has no count of its own, but that of the plan.
         for (old, cell) in first(cells, self.count).iter().enumerate() {
             if old != self.number {
                 write!(f, "{cell:>CELL$}")?;

@@ -12,7 +12,8 @@ use ordering::Order;
 use plan::{MODES, Plan};
 
 // Three rules in seats, and the codes of a plan's modes. Jobs of different modes go by mode number. Jobs of one mode go by the
-// first seat whose rule has the mode's code; if no seat has it, or the plan has no such mode, the third seat decides.
+// first seat whose rule has the mode's code; if no seat has it, or the plan has no such mode, the third seat decides. A board has no
+// heap, so the codes are an array.
 #[derive(Debug, Drop)]
 pub struct ByMode<A, B, C> {
     first: A,

@@ -50,6 +50,7 @@ impl PairOf<'_> {
         ensures { let p = plan_of self.now.draft.now.plan in take (tasks_in p self.now.new) result ≡ deadlines self.now.old (mode_at p self.now.new).tasks }
     {
         let tasks = self.tasks();
+        // The number of a task is small, so `as` is proved to lose nothing.
         array::from_fn(|number| match tasks.get(number) {
             Some(task) => Deadline {
                 ticks: self.deadline_of(task),

@@ -19,7 +19,8 @@ pub struct Unsound {
     pub deadline: u16,
 }
 
-// `Unsound` and `NoMode` each have a `number` of their own, as a fault has: no code is generic in what is told by one.
+// `Unsound` and `NoMode` each have a `number` of their own, as a refusal and a field of a
+// file have: no code is generic in what is told by one.
 impl Unsound {
     const NUMBER: u8 = 11;
 

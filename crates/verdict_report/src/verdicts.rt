@@ -25,7 +25,7 @@ pub fn unsound_text(alloc: Global, unsound: &Unsound) -> Result<String, AllocErr
     format!(in alloc; "{unsound}\n")
 }
 
-// What is told of a draft, which is used up.
+// What is told of a draft, which is used up: so no `Display`, which only looks.
 pub fn verdict_text(alloc: Global, draft: Draft) -> Result<String, AllocError>
     ensures { IfOk result (λ s. string_bytes s ≡ verdict_text (plan_of draft.plan)) }
 {
