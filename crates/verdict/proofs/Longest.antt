@@ -4,7 +4,7 @@ use native.Mathlib.Nat.{le-max_left, le-max_right, max-le}
 use Rattle.std.proofs.lemmas.Nat.{div-add-mod', mod_below, le-div, div_below}
 use Rattle.std.proofs.lemmas.Bool.Decides.{nat_tests}
 use Rattle.verdict.specs.Bound.{work, largest, bound, Longest}
-use Rattle.verdict.proofs.Works.{work_each, work_below}
+use Rattle.verdict.proofs.Works.{work_each}
 
 -- a running maximum is at least where it began and each number, and at most what all of these are at most
 most_start : (a : ℕ) (cs : List ℕ) → a ≤ fold max a cs
@@ -20,12 +20,9 @@ most_below : (a b : ℕ) (cs : List ℕ) → a ≤ b → ((k : ℕ) → k < leng
 most_below a b [] h each = h
 most_below a b (c ∷ cs) h each = most_below (max a c) b cs (max-le h (each 0 (omega arith))) (λ k l. each (suc k) (omega arith))
 
--- the work of tasks is at least the largest time, and at most this for each task
+-- the work of tasks is at least the largest time
 largest_below_work : (cs : List ℕ) → largest cs ≤ work cs (length cs)
 largest_below_work cs = most_below 0 (work cs (length cs)) cs (omega arith) (work_each cs)
-
-pub work_below_largest : (cs : List ℕ) → work cs (length cs) ≤ length cs * largest cs
-work_below_largest cs = work_below (largest cs) cs (most_each 0 cs)
 
 -- the quotient that the bound is, where tasks share processors
 module _ (m w c : ℕ) (some : 1 ≤ m) (fits : c ≤ w) where
