@@ -132,7 +132,8 @@ fn read_mode(bits: &mut BitReader<'_>, modes: Modes, mode: u8) -> Result<Mode, F
     })
 }
 
-// So many modes.
+// So many modes. Out of line, since a function pays at entry for all its tables, and a file that is refused before its modes needs none.
+#[inline(never)]
 fn read_modes(bits: &mut BitReader<'_>, modes: Modes) -> Result<[Mode; MODES], Fault>
     ensures { ReadsAs (λ ms. padded most_modes blank_mode (map mode_table ms)) (each modes.count (mode_layout modes.count)) bits.old result bits.new }
 {
