@@ -3,5 +3,4 @@ pub mod Longest
 pub mod Earliest
 pub mod Told
 pub mod Judge
-pub mod Filled
 pub mod Text

@@ -9,7 +9,6 @@ ghost use Rattle.verdict.specs.EarlierFirst.{deadlines_strict};
 use crate::pair::PairOf;
 use ordering::{Order, first_in_order};
 use plan::{TASKS, Task};
-use std::array;
 
 // An enabling deadline, with the task that it is for.
 #[derive(Clone, Copy, Debug, PartialEq, Eq, PartialOrd, Ord)]
@@ -49,15 +48,16 @@ impl PairOf<'_> {
     fn deadlines(&self) -> [Deadline; TASKS]
         ensures { let p = plan_of self.now.draft.now.plan in take (tasks_in p self.now.new) result ≡ deadlines self.now.old (mode_at p self.now.new).tasks }
     {
-        let tasks = self.tasks();
-        // The number of a task is small, so `as` is proved to lose nothing.
-        array::from_fn(|number| match tasks.get(number) {
-            Some(task) => Deadline {
+        let mut found = [Deadline::BLANK; TASKS];
+        // By index: an array made by a function asks for all places, however few tasks there are.
+        for (number, task) in self.tasks().iter().enumerate() {
+            // The number of a task is small, so `as` is proved to lose nothing.
+            found[number] = Deadline {
                 ticks: self.deadline_of(task),
                 task: number as u8,
-            },
-            None => Deadline::BLANK,
-        })
+            };
+        }
+        found
     }
 
     // The least enabling deadline, and the lowest task that has it.
